@@ -1,0 +1,17 @@
+pub mod Bytes
+pub mod Code
+pub mod CodeBytes
+pub mod Compiling
+pub mod Evaluation
+pub mod Expression
+pub mod Limits
+pub mod Machine
+pub mod Number
+pub mod Recipe
+pub mod Refusals
+pub mod Rehearsal
+pub mod Rehearsed
+pub mod Run
+pub mod Running
+pub mod Schedule
+pub mod Table

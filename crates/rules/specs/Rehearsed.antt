@@ -1,0 +1,104 @@
+-- R1 to R12 (document 01, "Rehearsed recipes"), as bytes that go in and the answer that must come.
+--
+--   Rehearsed         a status, a table, a schedule, and the answer
+--   rehearsedRecipes  R1 to R12
+--   AsRehearsed       each of them comes to its answer
+--
+-- Assumes nothing.
+use Prim.Native.Nat.{ℕ}
+use lib.IntN.{ℤ, pos, negsuc}
+use mathlib.Core.Path.{_≡_}
+use mathlib.Core.List.{List, [], _∷_, _++_, map}
+use Rattle.rules.specs.Rehearsal.{rehearse}
+use Rattle.rules.specs.Running.{refusedAnswer}
+use Rattle.rules.specs.declared.End.the-variants.{Number, Throw}
+use Rattle.rules.specs.declared.Reason.the-variants.{Uses}
+use Rattle.rules.specs.declared.Outcome.the-variants.{Ended}
+use Rattle.rules.specs.declared.Answer.{Answer}
+
+pub record Rehearsed : Type 0 where
+  pub status : ℕ
+  pub table : List ℕ
+  pub schedule : List ℕ
+  pub answer : Answer
+
+-- ---- words for the list
+
+abbrev record8 : ℕ → ℕ → ℕ → ℕ → ℕ → ℕ → ℕ → ℕ → List ℕ
+record8 a b c d e f g h = a ∷ b ∷ c ∷ d ∷ e ∷ f ∷ g ∷ h ∷ []
+
+abbrev blocked : ℕ
+blocked = 0
+
+abbrev unblocked : ℕ
+unblocked = 1
+
+abbrev quietly : List ℕ
+quietly = []
+
+-- a schedule byte for recalls at instructions 0 to 7
+abbrev recalls : ℕ → List ℕ
+recalls bits = bits ∷ []
+
+abbrev number : ℤ → ℕ → ℕ → Answer
+number n steps reached = record { outcome = Ended (Number n); steps = steps; reached = reached }
+
+abbrev throw : ℕ → ℕ → Answer
+throw steps reached = record { outcome = Ended Throw; steps = steps; reached = reached }
+
+abbrev comes : ℕ → List ℕ → List ℕ → Answer → Rehearsed
+comes status table schedule answer = record { status = status; table = table; schedule = schedule; answer = answer }
+
+-- ---- the tables
+
+abbrev val9 : List ℕ
+val9 = record8 1 0 0 0 9 0 0 0
+
+-- Add (Val 5) (Catch (Add (Val 7) Throw) (Val 6))
+abbrev treeA : List ℕ
+treeA =
+    record8 1 0 0 0 5 0 0 0
+    ++ record8 1 0 0 0 7 0 0 0
+    ++ record8 2 0 0 0 0 0 0 0
+    ++ record8 3 0 1 0 2 0 0 0
+    ++ record8 1 0 0 0 6 0 0 0
+    ++ record8 5 0 3 0 4 0 0 0
+    ++ record8 3 0 0 0 5 0 0 0
+
+abbrev blockVal4 : List ℕ
+blockVal4 = record8 1 0 0 0 4 0 0 0 ++ record8 6 0 0 0 0 0 0 0
+
+abbrev unblockBlockVal4 : List ℕ
+unblockBlockVal4 = blockVal4 ++ record8 7 0 1 0 0 0 0 0
+
+-- Add (Val 2147483647) (Val 1)
+abbrev addOverTheTop : List ℕ
+addOverTheTop = record8 1 0 0 0 255 255 255 127 ++ record8 1 0 0 0 1 0 0 0 ++ record8 3 0 0 0 1 0 0 0
+
+abbrev catchVal1Val2 : List ℕ
+catchVal1Val2 = record8 1 0 0 0 1 0 0 0 ++ record8 1 0 0 0 2 0 0 0 ++ record8 5 0 0 0 1 0 0 0
+
+-- Val and Add 0 0
+abbrev usedTwice : List ℕ
+usedTwice = record8 1 0 0 0 1 0 0 0 ++ record8 3 0 0 0 0 0 0 0
+
+-- ---- the list
+
+unfoldable pub rehearsedRecipes : List Rehearsed
+rehearsedRecipes =
+    comes unblocked val9 quietly (number (pos 9) 1 1)
+    ∷ comes unblocked val9 (recalls 0b00000001) (throw 1 1)
+    ∷ comes blocked val9 (recalls 0b00000001) (number (pos 9) 1 1)
+    ∷ comes unblocked treeA quietly (number (pos 11) 8 6)
+    ∷ comes unblocked treeA (recalls 0b00000100) (number (pos 11) 6 5)
+    ∷ comes unblocked treeA (recalls 0b00100000) (throw 10 6)
+    ∷ comes unblocked blockVal4 (recalls 0b00000110) (number (pos 4) 3 3)
+    ∷ comes unblocked blockVal4 (recalls 0b00000001) (throw 1 1)
+    ∷ comes blocked unblockBlockVal4 (recalls 0b00000010) (throw 3 2)
+    ∷ comes blocked addOverTheTop quietly (number (negsuc 2147483647) 3 3)
+    ∷ comes unblocked catchVal1Val2 (recalls 0b00000100) (number (pos 2) 6 4)
+    ∷ comes unblocked usedTwice quietly (refusedAnswer (record { reason = Uses; place = 0 }))
+    ∷ []
+
+unfoldable pub AsRehearsed : Type 0
+AsRehearsed = map (λ r. rehearse (r .status) (r .table) (r .schedule)) rehearsedRecipes ≡ map (λ r. r .answer) rehearsedRecipes

@@ -1,0 +1,34 @@
+-- A run (document 01, "One step of the machine" and "Refusal numbers").
+--
+--   run code asks left s   what running from s comes to, with `left` more steps allowed
+--   runs                   a run from a fresh state, with all its steps
+--
+-- Assumes nothing.
+use Prim.Native.Nat.{ℕ, zero, suc}
+use mathlib.Core.List.{List}
+use Rattle.rules.specs.Limits.{stepLimit}
+use Rattle.rules.specs.Machine.{State, fresh, Placing, Step, Next, Over, Stuck, step}
+use Rattle.rules.specs.declared.Status.{Status}
+use Rattle.rules.specs.declared.Instruction.{Instruction}
+use Rattle.rules.specs.declared.Outcome.{Outcome}
+use Rattle.rules.specs.declared.Outcome.the-variants.{Refused}
+use Rattle.rules.specs.declared.Answer.{Answer}
+use Rattle.rules.specs.declared.Reason.{Reason}
+use Rattle.rules.specs.declared.Refusal.{Refusal}
+
+-- with the totals of the last state
+abbrev pub answer : State → Outcome → Answer
+answer s o = record { outcome = o; steps = s .steps; reached = s .reached }
+
+abbrev pub tooManySteps : Outcome
+tooManySteps = Refused (record { reason = Reason.Steps; place = 0 })
+
+-- "an end or 14 at the length comes before 15, 15 before a step"; "a refused step counts in neither total"
+unfoldable pub run : List Instruction → Placing → ℕ → State → Answer
+run code asks zero s =
+    elim (step code asks s) [ Next next ↦ answer s tooManySteps | Over o ↦ answer s o | Stuck r ↦ answer s tooManySteps ]
+run code asks (suc left) s =
+    elim (step code asks s) [ Next next ↦ run code asks left next | Over o ↦ answer s o | Stuck r ↦ answer s (Refused r) ]
+
+unfoldable pub runs : List Instruction → Placing → Status → Answer
+runs code asks i = run code asks stepLimit (fresh i)
