@@ -1,1 +1,4 @@
+pub mod Holding
+pub mod Path
 pub mod Rehearsed
+pub mod Soundness

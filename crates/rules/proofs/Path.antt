@@ -1,0 +1,87 @@
+-- Paths of the machine: runs of steps that end in a state, with never more than `room` items on the stack.
+--
+--   running, unwinding   the two forms of a state
+--   Has                  the code has an instruction at an address
+--   Goes, Path           one step; some steps, one after another
+--   go, cut              the step at an instruction that is carried out, or cut
+--   push, drop, restore, handle   the steps that push, and those of unwinding
+--
+-- Assumes nothing.
+use Prim.Native.Nat.{ℕ, suc, _+_, _≤_}
+use lib.IntN.{ℤ}
+use lib.ListN.{length, getElem?}
+use borrow.Author.Tests.{lt-ltb}
+use native.Mathlib.Omega.{arith}
+use mathlib.Core.Bool.{Bool, true, false}
+use mathlib.Core.List.{List, _∷_}
+use mathlib.Core.Option.{Option, some}
+use mathlib.Core.Path.{_≡_, refl, _∙_}
+use Rattle.rules.specs.Limits.{itemLimit}
+use Rattle.rules.specs.Machine.{State, Mode, Running, Unwinding, Placing, Next, cuts, execute, push, atInstruction, unwind, stepAt, stepIn, step}
+use Rattle.rules.specs.declared.Status.{Status}
+use Rattle.rules.specs.declared.Instruction.{Instruction}
+use Rattle.rules.specs.declared.Item.{Item}
+use Rattle.rules.specs.declared.Item.the-variants.{Number, Handler, Saved}
+
+abbrev pub running : ℕ → Status → List Item → ℕ → ℕ → State
+running a i s t r = record { mode = Running a; status = i; items = s; steps = t; reached = r }
+
+abbrev pub unwinding : Status → List Item → ℕ → ℕ → State
+unwinding i s t r = record { mode = Unwinding; status = i; items = s; steps = t; reached = r }
+
+pub record Has (code : List Instruction) (a : ℕ) (x : Instruction) : Type 0 where
+  pub found : getElem? code a ≡ some x
+
+module _ (code : List Instruction) (asks : Placing) (room : ℕ) where
+  pub record Goes (s u : State) : Type 0 where
+    pub taken : step code asks s ≡ Next u
+    pub fits : length (u .items) ≤ room
+
+  infixr 40 _▸_
+  pub data Path : State → State → Type 0 where
+    done : {s : State} → Path s s
+    _▸_ : {s u v : State} → Goes s u → Path u v → Path s v
+
+module _ {code : List Instruction} {asks : Placing} {room : ℕ} where
+  infixr 35 _▹_
+  pub _▹_ : {s u v : State} → Path code asks room s u → Path code asks room u v → Path code asks room s v
+  done ▹ q = q
+  (g ▸ p) ▹ q = g ▸ (p ▹ q)
+
+  -- ---- at an instruction
+
+  module _ {a t r : ℕ} {x : Instruction} {i : Status} {s : List Item} where
+    pub go : {u : State} → Has code a x → cuts i (asks r) ≡ false → execute x a (running a i s t r) ≡ Next u → length (u .items) ≤ room
+        → Goes code asks room (running a i s t r) u
+    unfolding step stepIn stepAt atInstruction
+    go h calm e f = record { taken = rw (h .found, stepAt, calm) e; fits = f }
+
+    pub cut : Has code a x → cuts i (asks r) ≡ true → length s ≤ room
+        → Goes code asks room (running a i s t r) (unwinding i s (t + 1) (r + 1))
+    unfolding step stepIn stepAt atInstruction
+    cut h struck f = record { taken = rw (h .found, stepAt, struck); fits = f }
+
+  -- ---- a push: what PUSH, MARK and SET have in common
+
+  pub pushes : {a t r : ℕ} {x : Instruction} {i j : Status} {s : List Item} {item : Item} → room ≤ itemLimit → Has code a x → cuts i (asks r) ≡ false
+      → execute x a (running a i s t r) ≡ push item a (running a i s t r) j → suc (length s) ≤ room
+      → Goes code asks room (running a i s t r) (running (a + 1) j (item ∷ s) (t + 1) (r + 1))
+  unfolding push
+  pushes {s = s} small h calm e f =
+      let below : suc (length s) ≤ itemLimit = omega arith in
+      go h calm (e ∙ rw (lt-ltb (length s) itemLimit below)) f
+
+  -- ---- unwinding
+
+  module _ {i : Status} {s : List Item} {t r : ℕ} (f : length s ≤ room) where
+    pub drop : {n : ℤ} → Goes code asks room (unwinding i (Number n ∷ s) t r) (unwinding i s (t + 1) r)
+    unfolding step stepIn unwind
+    drop = record { taken = refl; fits = f }
+
+    pub restore : {j : Status} → Goes code asks room (unwinding i (Saved j ∷ s) t r) (unwinding j s (t + 1) r)
+    unfolding step stepIn unwind
+    restore = record { taken = refl; fits = f }
+
+    pub handle : {h : ℕ} → Goes code asks room (unwinding i (Handler h ∷ s) t r) (running h i s (t + 1) r)
+    unfolding step stepIn unwind
+    handle = record { taken = refl; fits = f }
