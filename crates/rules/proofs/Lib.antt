@@ -1,3 +1,4 @@
+pub mod Completeness
 pub mod Holding
 pub mod Path
 pub mod Rehearsed

@@ -2,6 +2,7 @@ pub mod Bytes
 pub mod Code
 pub mod CodeBytes
 pub mod Compiling
+pub mod Demand
 pub mod Evaluation
 pub mod Expression
 pub mod Limits

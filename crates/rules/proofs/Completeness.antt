@@ -1,0 +1,163 @@
+-- 001's completeness (its Proposition 3): each end that the rules permit has a row of bits, and code that holds e comes to that
+-- end under every placing that reads the row.
+--
+--   bits d rest       the row of a derivation, one bit for each instruction that its run reaches, and then `rest`
+--   length-bits       at most 2n - 1 of them
+--   Reads             a placing reads a row of bits from some number reached on
+--   Comes             a run has come to a state, with a row still to be read
+--   arrives           the run comes to the end that was derived
+--
+-- Assumes nothing.
+use Prim.Native.Nat.{ℕ, suc, _+_, _*_, _≤_}
+use native.Mathlib.Omega.{arith}
+use lib.ListN.{length}
+use mathlib.Core.Bool.{Bool, true, false}
+use mathlib.Core.List.{List, [], _∷_}
+use mathlib.Core.Path.{_≡_, refl}
+use Rattle.rules.specs.Evaluation.{Gives, VAL, THROW, ADD1, ADD2, ADD3, SEQN1, SEQN2, CATCH1, CATCH2, BLOCK, UNBLOCK, INT}
+use Rattle.rules.specs.Expression.{Expression, nodes}
+use Rattle.rules.specs.Limits.{itemLimit}
+use Rattle.rules.specs.Machine.{State, Placing, cuts, execute, withNumber, withHandler, withSaved}
+use Rattle.rules.specs.declared.Status.{Status}
+use Rattle.rules.specs.declared.Status.the-variants.{Blocked, Unblocked}
+use Rattle.rules.specs.declared.Instruction.{Instruction}
+use Rattle.rules.specs.declared.Item.{Item}
+use Rattle.rules.specs.declared.Item.the-variants.{Number, Handler, Saved}
+use Rattle.rules.specs.declared.End.{End}
+use Rattle.rules.proofs.Holding.{Holds, val, throw, add, seqn, catch, block, unblock}
+use Rattle.rules.proofs.Path.{running, unwinding, Has, Goes, Path, done, _▸_, _▹_, go, cut, pushes, drop, restore, handle}
+use Rattle.rules.proofs.Soundness.{nodes-pos}
+
+-- ---- rows of bits
+
+-- RESET is reached if x gave a number
+resetBits : End → List Bool → List Bool
+resetBits (End.Number n) rest = false ∷ rest
+resetBits End.Throw rest = rest
+
+pub bits : {e : Expression} {i : Status} {v : End} → Gives e i v → List Bool → List Bool
+bits VAL rest = false ∷ rest
+bits THROW rest = false ∷ rest
+bits (ADD1 x y) rest = bits x (bits y (false ∷ rest))
+bits (ADD2 x) rest = bits x rest
+bits (ADD3 x y) rest = bits x (bits y rest)
+bits (SEQN1 x y) rest = bits x (false ∷ bits y rest)
+bits (SEQN2 x) rest = bits x rest
+bits (CATCH1 x) rest = false ∷ bits x (false ∷ rest)
+bits (CATCH2 x y) rest = false ∷ bits x (bits y rest)
+bits (BLOCK {v = v} x) rest = false ∷ bits x (resetBits v rest)
+bits (UNBLOCK {v = v} x) rest = false ∷ bits x (resetBits v rest)
+bits INT rest = true ∷ rest
+
+length-resetBits : (v : End) (rest : List Bool) → length (resetBits v rest) ≤ length rest + 1
+unfolding resetBits
+length-resetBits (End.Number n) rest = omega arith
+length-resetBits End.Throw rest = omega arith
+
+pub length-bits : {e : Expression} {i : Status} {v : End} (d : Gives e i v) (rest : List Bool) → length (bits d rest) + 1 ≤ length rest + 2 * nodes e
+unfolding bits nodes
+length-bits VAL rest = omega arith
+length-bits THROW rest = omega arith
+length-bits (ADD1 x y) rest = omega (arith, length-bits x (bits y (false ∷ rest)), length-bits y (false ∷ rest))
+length-bits (ADD2 x) rest = omega (arith, length-bits x rest)
+length-bits (ADD3 x y) rest = omega (arith, length-bits x (bits y rest), length-bits y rest)
+length-bits (SEQN1 x y) rest = omega (arith, length-bits x (false ∷ bits y rest), length-bits y rest)
+length-bits (SEQN2 x) rest = omega (arith, length-bits x rest)
+length-bits (CATCH1 x) rest = omega (arith, length-bits x (false ∷ rest))
+length-bits (CATCH2 x y) rest = omega (arith, length-bits x (bits y rest), length-bits y rest)
+length-bits (BLOCK {v = v} x) rest = omega (arith, length-bits x (resetBits v rest), length-resetBits v rest)
+length-bits (UNBLOCK {v = v} x) rest = omega (arith, length-bits x (resetBits v rest), length-resetBits v rest)
+length-bits (INT {e = e}) rest = omega (arith, nodes-pos e)
+
+-- ---- placings that read them
+
+pub data Reads (asks : Placing) : ℕ → List Bool → Type 0 where
+  none : {r : ℕ} → Reads asks r []
+  bit : {r : ℕ} {b : Bool} {rest : List Bool} → asks r ≡ b → Reads asks (r + 1) rest → Reads asks r (b ∷ rest)
+
+calmly : (i : Status) {asked : Bool} → asked ≡ false → cuts i asked ≡ false
+unfolding cuts
+calmly Blocked e = refl
+calmly Unblocked e = e
+
+-- ---- how far a run has come: `u` is the state but for the counts
+
+module _ (code : List Instruction) (asks : Placing) (room : ℕ) where
+  pub data Comes (from : State) (u : ℕ → ℕ → State) (row : List Bool) : Type 0 where
+    by : {t r : ℕ} → Path code asks room from (u t r) → Reads asks r row → Comes from u row
+
+module _ {code : List Instruction} {asks : Placing} {room : ℕ} {from : State} {u w : ℕ → ℕ → State} {row : List Bool} where
+  -- an instruction carried out
+  carry : ((t r : ℕ) → asks r ≡ false → Goes code asks room (u t r) (w (t + 1) (r + 1))) → Comes code asks room from u (false ∷ row) → Comes code asks room from w row
+  carry g (by {t = t} {r = r} path (bit e reads)) = by (path ▹ g t r e ▸ done) reads
+
+  -- an item removed in unwinding
+  undo : ((t r : ℕ) → Goes code asks room (u t r) (w (t + 1) r)) → Comes code asks room from u row → Comes code asks room from w row
+  undo g (by {t = t} {r = r} path reads) = by (path ▹ g t r ▸ done) reads
+
+-- the first instruction of an expression
+first : {code : List Instruction} {a b : ℕ} {e : Expression} → Holds code a e b → (x : Instruction) × Has code a x
+first (val {n = n} h) = (Instruction.Push n, h)
+first (throw h) = (Instruction.Throw, h)
+first (add hx hy h) = first hx
+first (seqn hx h hy) = first hx
+first (catch {b = b} mark hx unmark hy) = (Instruction.Mark (b + 1), mark)
+first (block set hx reset) = (Instruction.Set Blocked, set)
+first (unblock set hx reset) = (Instruction.Set Unblocked, set)
+
+-- ---- every derivation
+
+abbrev pub arrival : End → ℕ → Status → List Item → ℕ → ℕ → State
+arrival (End.Number n) b i s = running b i (Number n ∷ s)
+arrival End.Throw b i s = unwinding i s
+
+module _ {code : List Instruction} {asks : Placing} {room : ℕ} {from : State} (small : room ≤ itemLimit) where
+  struck : {a b : ℕ} {e : Expression} {s : List Item} {row : List Bool} → Holds code a e b → length s ≤ room
+      → Comes code asks room from (running a Unblocked s) (true ∷ row) → Comes code asks room from (unwinding Unblocked s) row
+  unfolding cuts
+  struck h f (by path (bit e reads)) = by (path ▹ cut (first h .1) e f ▸ done) reads
+
+  -- RESET after a number, a saved status restored after a throw: what Block and Unblock have in common
+  leave : (v : End) (i j : Status) (s : List Item) {b : ℕ} {row : List Bool} → Has code b Instruction.Reset → suc (length s) ≤ room
+      → Comes code asks room from (arrival v b j (Saved i ∷ s)) (resetBits v row) → Comes code asks room from (arrival v (b + 1) i s) row
+  unfolding resetBits execute withNumber withSaved
+  leave (End.Number n) i j s reset f p = carry (λ t r e. go reset (calmly j e) refl f) p
+  leave End.Throw i j s reset f p = let f₀ : length s ≤ room = omega arith in undo (λ t r. restore f₀) p
+
+  pub arrives : {e : Expression} {i : Status} {v : End} (d : Gives e i v) {a b : ℕ} → Holds code a e b → (s : List Item) → length s + nodes e ≤ room
+      → {row : List Bool} → Comes code asks room from (running a i s) (bits d row) → Comes code asks room from (arrival v b i s) row
+  unfolding nodes bits execute withNumber withHandler withSaved
+  arrives (VAL {i = i}) (val h) s f p =
+      let f₁ : suc (length s) ≤ room = omega arith in
+      carry (λ t r e. pushes small h (calmly i e) refl f₁) p
+  arrives (THROW {i = i}) (throw h) s f p =
+      let f₀ : length s ≤ room = omega arith in
+      carry (λ t r e. go h (calmly i e) refl f₀) p
+  arrives (ADD1 {x = x} {i = i} {n = n} dx dy) (add hx hy h) s f p =
+      let f₁ : suc (length s) ≤ room = omega arith in
+      carry (λ t r e. go h (calmly i e) refl f₁) (arrives dy hy (Number n ∷ s) (omega (arith, nodes-pos x)) (arrives dx hx s (omega arith) p))
+  arrives (ADD2 dx) (add hx hy h) s f p = arrives dx hx s (omega arith) p
+  arrives (ADD3 {x = x} {n = n} dx dy) (add hx hy h) s f p =
+      let f₀ : length s ≤ room = omega arith in
+      undo (λ t r. drop f₀) (arrives dy hy (Number n ∷ s) (omega (arith, nodes-pos x)) (arrives dx hx s (omega arith) p))
+  arrives (SEQN1 {i = i} dx dy) (seqn hx h hy) s f p =
+      let f₀ : length s ≤ room = omega arith in
+      arrives dy hy s (omega arith) (carry (λ t r e. go h (calmly i e) refl f₀) (arrives dx hx s (omega arith) p))
+  arrives (SEQN2 dx) (seqn hx h hy) s f p = arrives dx hx s (omega arith) p
+  arrives (CATCH1 {y = y} {i = i} dx) (catch {b = b} mark hx unmark hy) s f p =
+      let f₁ : suc (length s) ≤ room = omega arith in
+      carry (λ t r e. go unmark (calmly i e) refl f₁)
+      (arrives dx hx (Handler (b + 1) ∷ s) (omega (arith, nodes-pos y)) (carry (λ t r e. pushes small mark (calmly i e) refl f₁) p))
+  arrives (CATCH2 {y = y} {i = i} dx dy) (catch {b = b} mark hx unmark hy) s f p =
+      let f₀ : length s ≤ room = omega arith in
+      let f₁ : suc (length s) ≤ room = omega arith in
+      arrives dy hy s (omega arith)
+      (undo (λ t r. handle f₀)
+      (arrives dx hx (Handler (b + 1) ∷ s) (omega (arith, nodes-pos y)) (carry (λ t r e. pushes small mark (calmly i e) refl f₁) p)))
+  arrives (BLOCK {i = i} {v = v} dx) (block set hx reset) s f p =
+      let f₁ : suc (length s) ≤ room = omega arith in
+      leave v i Blocked s reset f₁ (arrives dx hx (Saved i ∷ s) (omega arith) (carry (λ t r e. pushes small set (calmly i e) refl f₁) p))
+  arrives (UNBLOCK {i = i} {v = v} dx) (unblock set hx reset) s f p =
+      let f₁ : suc (length s) ≤ room = omega arith in
+      leave v i Unblocked s reset f₁ (arrives dx hx (Saved i ∷ s) (omega arith) (carry (λ t r e. pushes small set (calmly i e) refl f₁) p))
+  arrives INT h s f p = struck h (omega arith) p
