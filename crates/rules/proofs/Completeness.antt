@@ -31,11 +31,11 @@ use Rattle.rules.proofs.Soundness.{nodes-pos}
 -- ---- rows of bits
 
 -- RESET is reached if x gave a number
-resetBits : End → List Bool → List Bool
+unfoldable pub resetBits : End → List Bool → List Bool
 resetBits (End.Number n) rest = false ∷ rest
 resetBits End.Throw rest = rest
 
-pub bits : {e : Expression} {i : Status} {v : End} → Gives e i v → List Bool → List Bool
+unfoldable pub bits : {e : Expression} {i : Status} {v : End} → Gives e i v → List Bool → List Bool
 bits VAL rest = false ∷ rest
 bits THROW rest = false ∷ rest
 bits (ADD1 x y) rest = bits x (bits y (false ∷ rest))

@@ -17,7 +17,7 @@ use mathlib.Core.List.{List, _∷_}
 use mathlib.Core.Option.{Option, some}
 use mathlib.Core.Path.{_≡_, refl, _∙_}
 use Rattle.rules.specs.Limits.{itemLimit}
-use Rattle.rules.specs.Machine.{State, Mode, Running, Unwinding, Placing, Next, cuts, execute, push, atInstruction, unwind, stepAt, stepIn, step}
+use Rattle.rules.specs.Machine.{State, Mode, Running, Unwinding, Placing, Next, onward, cuts, execute, push, atInstruction, unwind, stepAt, stepIn, step}
 use Rattle.rules.specs.declared.Status.{Status}
 use Rattle.rules.specs.declared.Instruction.{Instruction}
 use Rattle.rules.specs.declared.Item.{Item}
@@ -35,6 +35,7 @@ pub record Has (code : List Instruction) (a : ℕ) (x : Instruction) : Type 0 wh
 module _ (code : List Instruction) (asks : Placing) (room : ℕ) where
   pub record Goes (s u : State) : Type 0 where
     pub taken : step code asks s ≡ Next u
+    pub counted : u .steps ≡ s .steps + 1
     pub fits : length (u .items) ≤ room
 
   infixr 40 _▸_
@@ -51,15 +52,16 @@ module _ {code : List Instruction} {asks : Placing} {room : ℕ} where
   -- ---- at an instruction
 
   module _ {a t r : ℕ} {x : Instruction} {i : Status} {s : List Item} where
-    pub go : {u : State} → Has code a x → cuts i (asks r) ≡ false → execute x a (running a i s t r) ≡ Next u → length (u .items) ≤ room
-        → Goes code asks room (running a i s t r) u
+    pub go : {m : Mode} {j : Status} {s′ : List Item} → Has code a x → cuts i (asks r) ≡ false
+        → execute x a (running a i s t r) ≡ onward (running a i s t r) m j s′ → length s′ ≤ room
+        → Goes code asks room (running a i s t r) (record { mode = m; status = j; items = s′; steps = t + 1; reached = r + 1 })
     unfolding step stepIn stepAt atInstruction
-    go h calm e f = record { taken = rw (h .found, stepAt, calm) e; fits = f }
+    go h calm e f = record { taken = rw (h .found, stepAt, calm) e; counted = refl; fits = f }
 
     pub cut : Has code a x → cuts i (asks r) ≡ true → length s ≤ room
         → Goes code asks room (running a i s t r) (unwinding i s (t + 1) (r + 1))
     unfolding step stepIn stepAt atInstruction
-    cut h struck f = record { taken = rw (h .found, stepAt, struck); fits = f }
+    cut h struck f = record { taken = rw (h .found, stepAt, struck); counted = refl; fits = f }
 
   -- ---- a push: what PUSH, MARK and SET have in common
 
@@ -76,12 +78,12 @@ module _ {code : List Instruction} {asks : Placing} {room : ℕ} where
   module _ {i : Status} {s : List Item} {t r : ℕ} (f : length s ≤ room) where
     pub drop : {n : ℤ} → Goes code asks room (unwinding i (Number n ∷ s) t r) (unwinding i s (t + 1) r)
     unfolding step stepIn unwind
-    drop = record { taken = refl; fits = f }
+    drop = record { taken = refl; counted = refl; fits = f }
 
     pub restore : {j : Status} → Goes code asks room (unwinding i (Saved j ∷ s) t r) (unwinding j s (t + 1) r)
     unfolding step stepIn unwind
-    restore = record { taken = refl; fits = f }
+    restore = record { taken = refl; counted = refl; fits = f }
 
     pub handle : {h : ℕ} → Goes code asks room (unwinding i (Handler h ∷ s) t r) (running h i s (t + 1) r)
     unfolding step stepIn unwind
-    handle = record { taken = refl; fits = f }
+    handle = record { taken = refl; counted = refl; fits = f }

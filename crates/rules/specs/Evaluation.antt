@@ -28,21 +28,20 @@ pub data Gives : Expression → Status → End → Type 0 where
 
 -- ---- without recalls: 001, section 2, as the total function that it says its relation is
 
-quietAdd : End → End → End
+unfoldable pub quietAdd : End → End → End
 quietAdd (Number n) (Number m) = Number (sum n m)
 quietAdd (Number n) End.Throw = End.Throw
 quietAdd End.Throw v = End.Throw
 
-quietSeqn : End → End → End
+unfoldable pub quietSeqn : End → End → End
 quietSeqn (Number n) v = v
 quietSeqn End.Throw v = End.Throw
 
-quietCatch : End → End → End
+unfoldable pub quietCatch : End → End → End
 quietCatch (Number n) v = Number n
 quietCatch End.Throw v = v
 
 unfoldable pub quiet : Expression → End
-unfolding quietAdd quietSeqn quietCatch
 quiet (Val n) = Number n
 quiet Throw = End.Throw
 quiet (Add x y) = quietAdd (quiet x) (quiet y)

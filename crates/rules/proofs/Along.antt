@@ -1,0 +1,100 @@
+-- What a path says of a run. A machine is deterministic under a placing, so a path to where nothing is left to do is the run.
+--
+--   Finishes                          a state in which the run is over
+--   number-finishes, throw-finishes   at the length with one number; unwinding with nothing left
+--   finished                          the answer of a run whose path finishes within the steps allowed
+--   agree                             two paths that finish end alike
+--   met-fits                          every state met in a run whose path finishes has room
+--
+-- Assumes nothing.
+use Prim.Native.Nat.{ℕ, zero, suc, _+_, _-_, _≤_}
+use native.Mathlib.Omega.{arith}
+use lib.IntN.{ℤ}
+use lib.ListN.{length, getElem?}
+use mathlib.Core.List.{List, [], _∷_}
+use mathlib.Core.Option.{Option, none}
+use mathlib.Core.Path.{_≡_, refl, ap, _∙_}
+use Rattle.rules.specs.Demand.{Meets, here, later}
+use Rattle.rules.specs.Limits.{stepLimit}
+use Rattle.rules.specs.Machine.{State, fresh, Placing, Next, Over, withNumber, withNothing, atLength, unwind, stepAt, stepIn, step}
+use Rattle.rules.specs.Run.{answer, run, runs}
+use Rattle.rules.specs.declared.Status.{Status}
+use Rattle.rules.specs.declared.Instruction.{Instruction}
+use Rattle.rules.specs.declared.Item.the-variants.{Number}
+use Rattle.rules.specs.declared.End.{End}
+use Rattle.rules.specs.declared.Outcome.{Outcome}
+use Rattle.rules.specs.declared.Outcome.the-variants.{Ended}
+use Rattle.rules.proofs.Path.{running, unwinding, Goes, Path, done, _▸_}
+
+-- ---- where a path is over
+
+getElem-past : (code : List Instruction) (a : ℕ) → length code ≤ a → getElem? code a ≡ none
+getElem-past [] a h = refl
+getElem-past (x ∷ code) zero h = absurd (omega arith)
+getElem-past (x ∷ code) (suc a) h = getElem-past code a (omega arith)
+
+pub record Finishes (code : List Instruction) (asks : Placing) (s : State) (o : Outcome) : Type 0 where
+  pub over : step code asks s ≡ Over o
+
+module _ {code : List Instruction} {asks : Placing} {i : Status} {t r : ℕ} where
+  pub number-finishes : {a : ℕ} {n : ℤ} → length code ≤ a → Finishes code asks (running a i (Number n ∷ []) t r) (Ended (End.Number n))
+  unfolding step stepIn stepAt atLength withNumber withNothing
+  number-finishes {a = a} h = record { over = rw (getElem-past code a h, stepAt) }
+
+  pub throw-finishes : Finishes code asks (unwinding i [] t r) (Ended End.Throw)
+  unfolding step stepIn unwind
+  throw-finishes = record { over = refl }
+
+module _ {code : List Instruction} {asks : Placing} {room : ℕ} where
+  -- ---- the run
+
+  path-steps : {s u : State} → Path code asks room s u → s .steps ≤ u .steps
+  path-steps done = omega arith
+  path-steps (g ▸ path) = omega (arith, g .counted, path-steps path)
+
+  run-along : {s u : State} → Path code asks room s u → (left k : ℕ) → k + u .steps ≡ left + s .steps → run code asks left s ≡ run code asks k u
+  unfolding run
+  run-along {s} done left k e = let same : left ≡ k = omega arith in ap (λ n. run code asks n s) same
+  run-along (g ▸ path) zero k e = absurd (omega (arith, g .counted, path-steps path))
+  run-along (g ▸ path) (suc left) k e = rw (g .taken, run) (run-along path left k (omega (arith, g .counted)))
+
+module _ {code : List Instruction} {asks : Placing} {u : State} {o : Outcome} where
+  run-over : (left : ℕ) → Finishes code asks u o → run code asks left u ≡ answer u o
+  unfolding run
+  run-over zero f = rw (f .over, run)
+  run-over (suc left) f = rw (f .over, run)
+
+  pub finished : {room : ℕ} {i : Status} → Path code asks room (fresh i) u → Finishes code asks u o → u .steps ≤ stepLimit → runs code asks i ≡ answer u o
+  unfolding runs
+  finished path f h =
+      let left : ℕ = stepLimit - u .steps in
+      run-along path stepLimit left (omega arith) ∙ run-over left f
+
+  stays : {next : State} {A : Type 0} → Finishes code asks u o → step code asks u ≡ Next next → A
+  stays f e = let z : _≡_ {A = ℕ} 0 1 = cc (f .over) in absurd (omega arith)
+
+-- ---- determinism
+
+module _ {code : List Instruction} {asks : Placing} {room : ℕ} where
+  same-next : {s u next : State} → Goes code asks room s u → step code asks s ≡ Next next → next ≡ u
+  same-next g e = cc (g .taken)
+
+  pub agree : {s u u′ : State} {o o′ : Outcome} → Path code asks room s u → Finishes code asks u o → Path code asks room s u′ → Finishes code asks u′ o′ → o ≡ o′
+  agree done f done f′ = cc (f .over, f′ .over)
+  agree done f (g ▸ path) f′ = stays f (g .taken)
+  agree (g ▸ path) f done f′ = stays f′ (g .taken)
+  agree (g ▸ path) f (g′ ▸ path′) f′ = agree path f (rw (same-next g (g′ .taken)) at path′) f′
+
+  after : {s u m : State} → Goes code asks room s u → length (s .items) ≤ room → Meets code asks s m → (Meets code asks u m → length (m .items) ≤ room)
+      → length (m .items) ≤ room
+  after g h here rest = h
+  after g h (later e meets) rest = rest (rw (same-next g e) at meets)
+
+  last : {u m : State} {o : Outcome} → Finishes code asks u o → length (u .items) ≤ room → Meets code asks u m → length (m .items) ≤ room
+  last f h here = h
+  last f h (later e meets) = stays f e
+
+  pub met-fits : {s u m : State} {o : Outcome} → Path code asks room s u → Finishes code asks u o → length (s .items) ≤ room → Meets code asks s m
+      → length (m .items) ≤ room
+  met-fits done f h meets = last f h meets
+  met-fits (g ▸ path) f h meets = after g h meets (met-fits path f (g .fits))

@@ -1,0 +1,119 @@
+-- Demand 3, before bytes: proved of every expression of at most 512 nodes, in both statuses (specs/Demand.antt says what is
+-- claimed).
+--
+--   demand            the claim
+--   quiet-permitted   the end that no recall gives is permitted, also
+--
+-- Assumes nothing.
+use Prim.Native.Nat.{ℕ, zero, suc, _+_, _*_, _-_, _≤_, _<_}
+use native.Mathlib.Nat.{add-zero}
+use native.Mathlib.Omega.{arith}
+use lib.ListN.{length, getD, List·getD-eq-default}
+use mathlib.Core.Bool.{Bool, false}
+use mathlib.Core.List.{List, [], _∷_, _++_, append-nil}
+use mathlib.Core.Path.{_≡_, refl, sym, ap, _∙_}
+use Rattle.rules.specs.Code.{codeLength, compile}
+use Rattle.rules.specs.Demand.{ofExpression, mostSteps, mostReached, Ends, AsksNothingFrom, Meets, noRecall, Demand}
+use Rattle.rules.specs.Evaluation.{Gives, quiet}
+use Rattle.rules.specs.Expression.{Expression, nodes}
+use Rattle.rules.specs.Limits.{itemLimit, stepLimit}
+use Rattle.rules.specs.Machine.{State, fresh, Placing}
+use Rattle.rules.specs.Run.{answer}
+use Rattle.rules.specs.declared.Status.{Status}
+use Rattle.rules.specs.declared.End.{End}
+use Rattle.rules.specs.declared.Outcome.{Outcome}
+use Rattle.rules.specs.declared.Outcome.the-variants.{Ended}
+use Rattle.rules.proofs.Along.{Finishes, number-finishes, throw-finishes, finished, agree, met-fits}
+use Rattle.rules.proofs.Completeness.{bits, length-bits, Reads, none, bit, Comes, by, arrival, arrives}
+use Rattle.rules.proofs.Holding.{Holds, compile-holds, length-compile}
+use Rattle.rules.proofs.Path.{running, Path, done}
+use Rattle.rules.proofs.Quiet.{silent-reads, empty, Quietly, quietly-gives}
+use Rattle.rules.proofs.Soundness.{Lands, number, throws, lands}
+
+-- ---- a placing made of a row of bits
+
+abbrev placed : List Bool → Placing
+placed row k = getD row k false
+
+reads-from : (asks : Placing) (row : List Bool) (r : ℕ) → ((k : ℕ) → asks (r + k) ≡ getD row k false) → Reads asks r row
+reads-from asks [] r h = none
+reads-from asks (b ∷ row) r h =
+    bit (rw add-zero at (h 0)) (reads-from asks row (r + 1) (λ k. let e : r + 1 + k ≡ r + suc k = omega arith in rw e (h (suc k))))
+
+placed-reads : (row : List Bool) → Reads (placed row) 0 row
+placed-reads row = reads-from (placed row) row 0 (λ k. let e : 0 + k ≡ k = omega arith in rw e)
+
+placed-ends : (row : List Bool) (n : ℕ) → length row ≤ n → AsksNothingFrom n (placed row)
+placed-ends row n h k l = let past : length row ≤ k = omega arith in List·getD-eq-default row false past
+
+module _ (e : Expression) (small : nodes e ≤ itemLimit) (i : Status) where
+  whole : Holds (compile 0 e) 0 e (0 + codeLength e)
+  whole = compile-holds 0 e [] [] refl (sym (append-nil (compile 0 e)))
+
+  past : length (compile 0 e) ≤ 0 + codeLength e
+  past = rw length-compile (omega arith)
+
+  -- where the run is over
+  record Finish (asks : Placing) : Type 0 where
+    state : State
+    end : End
+    path : Path (compile 0 e) asks (nodes e) (fresh i) state
+    finishes : Finishes (compile 0 e) asks state (Ended end)
+    permitted : Gives e i end
+    steps : state .steps + 1 ≤ 3 * nodes e
+    reached : state .reached + 1 ≤ 2 * nodes e
+
+  finish-of : {asks : Placing} → Lands (compile 0 e) asks (nodes e) e i [] (0 + codeLength e) 0 0 (fresh i) → Finish asks
+  finish-of (number n t r g p q path) =
+      record { state = _; end = End.Number n; path = path; finishes = number-finishes past; permitted = g; steps = omega arith; reached = omega arith }
+  finish-of (throws t r g p q path) =
+      record { state = _; end = End.Throw; path = path; finishes = throw-finishes; permitted = g; steps = omega arith; reached = omega arith }
+
+  finish : (asks : Placing) → Finish asks
+  finish asks = finish-of (lands small whole i [] 0 0 (omega arith))
+
+  answered : {asks : Placing} (f : Finish asks) → ofExpression e asks i ≡ answer (f .state) (Ended (f .end))
+  answered f = finished (f .path) (f .finishes) (omega (arith, f .steps))
+
+  ends : (asks : Placing) → Ends e i (ofExpression e asks i)
+  unfolding mostSteps mostReached
+  ends asks =
+      let f : Finish asks = finish asks in
+      rw (answered f)
+      (record { end = f .end; ended = refl; permitted = f .permitted; withinSteps = omega (arith, f .steps); withinReached = omega (arith, f .reached) })
+
+  -- ---- the end of a derivation is the end of the run that reads its row
+
+  same-end : {asks : Placing} (v : End) → Comes (compile 0 e) asks (nodes e) (fresh i) (arrival v (0 + codeLength e) i []) [] → (f : Finish asks)
+      → _≡_ {A = Outcome} (Ended (f .end)) (Ended v)
+  same-end (End.Number n) (by path reads) f = agree (f .path) (f .finishes) path (number-finishes past)
+  same-end End.Throw (by path reads) f = agree (f .path) (f .finishes) path throw-finishes
+
+  comes-to : {asks : Placing} {v : End} (d : Gives e i v) → Reads asks 0 (bits d []) → ofExpression e asks i .outcome ≡ Ended v
+  comes-to {asks} {v} d reads =
+      let f : Finish asks = finish asks in
+      ap (λ a. a .outcome) (answered f) ∙ same-end v (arrives small d whole [] (omega arith) (by done reads)) f
+
+  meets : (v : End) → Gives e i v → (asks : Placing) × AsksNothingFrom (mostReached e) asks × (ofExpression e asks i .outcome ≡ Ended v)
+  unfolding mostReached
+  meets v d =
+      let row : List Bool = bits d [] in
+      (placed row, placed-ends row (2 * nodes e - 1) (omega (arith, length-bits d [])), comes-to d (placed-reads row))
+
+  only-permitted : (v : End) (asks : Placing) → ofExpression e asks i .outcome ≡ Ended v → Gives e i v
+  only-permitted v asks p =
+      let f : Ends e i (ofExpression e asks i) = ends asks in
+      let same : f .end ≡ v = cc (f .ended) in
+      rw same at (f .permitted)
+
+  pub demand : Demand e i
+  demand =
+      record
+      { ends = ends
+      ; items = λ asks s met. let f : Finish asks = finish asks in met-fits (f .path) (f .finishes) (omega arith) met
+      ; meets = meets
+      ; exactly = λ v. ((λ p. only-permitted v (p .0) (p .1)), λ d. (meets v d .0, meets v d .2))
+      ; quietly = let q : Quietly e i (quiet e) = quietly-gives e i in comes-to (q .gives) (silent-reads (q .silently [] empty) 0) }
+
+pub quiet-permitted : (e : Expression) (i : Status) → Gives e i (quiet e)
+quiet-permitted e i = quietly-gives e i .gives
