@@ -24,7 +24,8 @@ use Rattle.rules.specs.declared.Item.the-variants.{Number}
 use Rattle.rules.specs.declared.End.{End}
 use Rattle.rules.specs.declared.Outcome.{Outcome}
 use Rattle.rules.specs.declared.Outcome.the-variants.{Ended}
-use Rattle.rules.proofs.Path.{running, unwinding, Goes, Path, done, _▸_}
+use Rattle.rules.proofs.Order.{running, unwinding, run-next, run-over}
+use Rattle.rules.proofs.Path.{Goes, Path, done, _▸_}
 
 -- ---- where a path is over
 
@@ -53,22 +54,16 @@ module _ {code : List Instruction} {asks : Placing} {room : ℕ} where
   path-steps (g ▸ path) = omega (arith, g .counted, path-steps path)
 
   run-along : {s u : State} → Path code asks room s u → (left k : ℕ) → k + u .steps ≡ left + s .steps → run code asks left s ≡ run code asks k u
-  unfolding run
   run-along {s} done left k e = let same : left ≡ k = omega arith in ap (λ n. run code asks n s) same
   run-along (g ▸ path) zero k e = absurd (omega (arith, g .counted, path-steps path))
-  run-along (g ▸ path) (suc left) k e = rw (g .taken, run) (run-along path left k (omega (arith, g .counted)))
+  run-along {s} (g ▸ path) (suc left) k e = run-next code asks s left (g .taken) ∙ run-along path left k (omega (arith, g .counted))
 
 module _ {code : List Instruction} {asks : Placing} {u : State} {o : Outcome} where
-  run-over : (left : ℕ) → Finishes code asks u o → run code asks left u ≡ answer u o
-  unfolding run
-  run-over zero f = rw (f .over, run)
-  run-over (suc left) f = rw (f .over, run)
-
   pub finished : {room : ℕ} {i : Status} → Path code asks room (fresh i) u → Finishes code asks u o → u .steps ≤ stepLimit → runs code asks i ≡ answer u o
   unfolding runs
   finished path f h =
       let left : ℕ = stepLimit - u .steps in
-      run-along path stepLimit left (omega arith) ∙ run-over left f
+      run-along path stepLimit left (omega arith) ∙ run-over code asks u left (f .over)
 
   stays : {next : State} {A : Type 0} → Finishes code asks u o → step code asks u ≡ Next next → A
   stays f e = let z : _≡_ {A = ℕ} 0 1 = cc (f .over) in absurd (omega arith)

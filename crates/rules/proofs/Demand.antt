@@ -1,8 +1,7 @@
 -- Demand 3, before bytes: proved of every expression of at most 512 nodes, in both statuses (specs/Demand.antt says what is
 -- claimed).
 --
---   demand            the claim
---   quiet-permitted   the end that no recall gives is permitted, also
+--   demand   the claim
 --
 -- Assumes nothing.
 use Prim.Native.Nat.{ℕ, zero, suc, _+_, _*_, _-_, _≤_, _<_}
@@ -16,7 +15,7 @@ use Rattle.rules.specs.Code.{codeLength, compile}
 use Rattle.rules.specs.Demand.{ofExpression, mostSteps, mostReached, Ends, AsksNothingFrom, Meets, noRecall, Demand}
 use Rattle.rules.specs.Evaluation.{Gives, quiet}
 use Rattle.rules.specs.Expression.{Expression, nodes}
-use Rattle.rules.specs.Limits.{itemLimit, stepLimit}
+use Rattle.rules.specs.Limits.{nodeLimit, stepLimit}
 use Rattle.rules.specs.Machine.{State, fresh, Placing}
 use Rattle.rules.specs.Run.{answer}
 use Rattle.rules.specs.declared.Status.{Status}
@@ -25,8 +24,8 @@ use Rattle.rules.specs.declared.Outcome.{Outcome}
 use Rattle.rules.specs.declared.Outcome.the-variants.{Ended}
 use Rattle.rules.proofs.Along.{Finishes, number-finishes, throw-finishes, finished, agree, met-fits}
 use Rattle.rules.proofs.Completeness.{bits, length-bits, Reads, none, bit, Comes, by, arrival, arrives}
-use Rattle.rules.proofs.Holding.{Holds, compile-holds, length-compile}
-use Rattle.rules.proofs.Path.{running, Path, done}
+use Rattle.rules.proofs.Holding.{Holds, compile-holds, length-compile, codeLength-nodes}
+use Rattle.rules.proofs.Path.{Path, done}
 use Rattle.rules.proofs.Quiet.{silent-reads, empty, Quietly, quietly-gives}
 use Rattle.rules.proofs.Soundness.{Lands, number, throws, lands}
 
@@ -46,7 +45,7 @@ placed-reads row = reads-from (placed row) row 0 (λ k. let e : 0 + k ≡ k = om
 placed-ends : (row : List Bool) (n : ℕ) → length row ≤ n → AsksNothingFrom n (placed row)
 placed-ends row n h k l = let past : length row ≤ k = omega arith in List·getD-eq-default row false past
 
-module _ (e : Expression) (small : nodes e ≤ itemLimit) (i : Status) where
+module _ (e : Expression) (small : nodes e ≤ nodeLimit) (i : Status) where
   whole : Holds (compile 0 e) 0 e (0 + codeLength e)
   whole = compile-holds 0 e [] [] refl (sym (append-nil (compile 0 e)))
 
@@ -106,14 +105,19 @@ module _ (e : Expression) (small : nodes e ≤ itemLimit) (i : Status) where
       let same : f .end ≡ v = cc (f .ended) in
       rw same at (f .permitted)
 
+  short : codeLength e ≤ mostReached e
+  unfolding mostReached
+  short = omega (arith, codeLength-nodes e)
+
   pub demand : Demand e i
   demand =
+      let q : Quietly e i (quiet e) = quietly-gives e i in
       record
       { ends = ends
-      ; items = λ asks s met. let f : Finish asks = finish asks in met-fits (f .path) (f .finishes) (omega arith) met
       ; meets = meets
       ; exactly = λ v. ((λ p. only-permitted v (p .0) (p .1)), λ d. (meets v d .0, meets v d .2))
-      ; quietly = let q : Quietly e i (quiet e) = quietly-gives e i in comes-to (q .gives) (silent-reads (q .silently [] empty) 0) }
-
-pub quiet-permitted : (e : Expression) (i : Status) → Gives e i (quiet e)
-quiet-permitted e i = quietly-gives e i .gives
+      ; items = λ asks s met. let f : Finish asks = finish asks in met-fits (f .path) (f .finishes) (omega arith) met
+      ; column = length-compile 0 e
+      ; short = short
+      ; quietly = comes-to (q .gives) (silent-reads (q .silently [] empty) 0)
+      ; quietGiven = q .gives }

@@ -21,7 +21,7 @@ use Rattle.rules.specs.declared.Status.{Status}
 use Rattle.rules.specs.declared.Status.the-variants.{Blocked, Unblocked}
 use Rattle.rules.specs.declared.Instruction.{Instruction}
 use Rattle.rules.specs.declared.Instruction.the-variants.{Push, Pop, Mark, Unmark, Set, Reset}
-use Rattle.rules.proofs.Path.{Has}
+use Rattle.rules.proofs.Order.{Has}
 
 pub data Holds (code : List Instruction) : ℕ → Expression → ℕ → Type 0 where
   val : {a : ℕ} {n : ℤ} → Has code a (Push n) → Holds code a (Val n) (a + 1)

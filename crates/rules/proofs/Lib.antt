@@ -2,6 +2,7 @@ pub mod Along
 pub mod Completeness
 pub mod Demand
 pub mod Holding
+pub mod Order
 pub mod Path
 pub mod Quiet
 pub mod Rehearsed

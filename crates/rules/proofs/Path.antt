@@ -1,36 +1,25 @@
 -- Paths of the machine: runs of steps that end in a state, with never more than `room` items on the stack.
 --
---   running, unwinding   the two forms of a state
---   Has                  the code has an instruction at an address
---   Goes, Path           one step; some steps, one after another
---   go, cut              the step at an instruction that is carried out, or cut
---   push, drop, restore, handle   the steps that push, and those of unwinding
+--   Goes, Path              one step; some steps, one after another
+--   go, pushes, cut         the step at an instruction that is carried out, that pushes, that is cut
+--   drop, restore, handle   the steps of unwinding
 --
 -- Assumes nothing.
 use Prim.Native.Nat.{ℕ, suc, _+_, _≤_}
 use lib.IntN.{ℤ}
-use lib.ListN.{length, getElem?}
+use lib.ListN.{length}
 use borrow.Author.Tests.{lt-ltb}
 use native.Mathlib.Omega.{arith}
 use mathlib.Core.Bool.{Bool, true, false}
 use mathlib.Core.List.{List, _∷_}
-use mathlib.Core.Option.{Option, some}
 use mathlib.Core.Path.{_≡_, refl, _∙_}
 use Rattle.rules.specs.Limits.{itemLimit}
-use Rattle.rules.specs.Machine.{State, Mode, Running, Unwinding, Placing, Next, onward, cuts, execute, push, atInstruction, unwind, stepAt, stepIn, step}
+use Rattle.rules.specs.Machine.{State, Mode, Placing, Next, onward, cuts, execute, push, unwind, stepIn, step}
 use Rattle.rules.specs.declared.Status.{Status}
 use Rattle.rules.specs.declared.Instruction.{Instruction}
 use Rattle.rules.specs.declared.Item.{Item}
 use Rattle.rules.specs.declared.Item.the-variants.{Number, Handler, Saved}
-
-abbrev pub running : ℕ → Status → List Item → ℕ → ℕ → State
-running a i s t r = record { mode = Running a; status = i; items = s; steps = t; reached = r }
-
-abbrev pub unwinding : Status → List Item → ℕ → ℕ → State
-unwinding i s t r = record { mode = Unwinding; status = i; items = s; steps = t; reached = r }
-
-pub record Has (code : List Instruction) (a : ℕ) (x : Instruction) : Type 0 where
-  pub found : getElem? code a ≡ some x
+use Rattle.rules.proofs.Order.{running, unwinding, Has, step-cut, step-carried}
 
 module _ (code : List Instruction) (asks : Placing) (room : ℕ) where
   pub record Goes (s u : State) : Type 0 where
@@ -55,13 +44,11 @@ module _ {code : List Instruction} {asks : Placing} {room : ℕ} where
     pub go : {m : Mode} {j : Status} {s′ : List Item} → Has code a x → cuts i (asks r) ≡ false
         → execute x a (running a i s t r) ≡ onward (running a i s t r) m j s′ → length s′ ≤ room
         → Goes code asks room (running a i s t r) (record { mode = m; status = j; items = s′; steps = t + 1; reached = r + 1 })
-    unfolding step stepIn stepAt atInstruction
-    go h calm e f = record { taken = rw (h .found, stepAt, calm) e; counted = refl; fits = f }
+    go h calm e f = record { taken = step-carried asks i s t r h calm ∙ e; counted = refl; fits = f }
 
     pub cut : Has code a x → cuts i (asks r) ≡ true → length s ≤ room
         → Goes code asks room (running a i s t r) (unwinding i s (t + 1) (r + 1))
-    unfolding step stepIn stepAt atInstruction
-    cut h struck f = record { taken = rw (h .found, stepAt, struck); counted = refl; fits = f }
+    cut h struck f = record { taken = step-cut asks i s t r h struck; counted = refl; fits = f }
 
   -- ---- a push: what PUSH, MARK and SET have in common
 

@@ -2,7 +2,8 @@
 --
 --   instructionBytes   the eight bytes of an instruction
 --   bytesOf            the bytes of a code
---   Opcode, opcodes    document 01's list of opcodes: what the operand is, the instruction made
+--   Form               what an operand is
+--   opcodes            document 01's list of opcodes: what the operand is, the instruction made
 --   instructionAt      the instruction that a record says
 --   instructions       the code that bytes say
 --   instructionTest    tests 10, 11 and 12 of an instruction
@@ -15,10 +16,11 @@ use lib.ListN.{getElem?}
 use mathlib.Core.Bool.{Bool, true, _&&_}
 use mathlib.Core.List.{List, [], _∷_, _++_}
 use mathlib.Core.Option.{Option, none, some}
+use Rattle.rules.specs.Answers.{statusNumber, statusNumbered}
 use Rattle.rules.specs.Bytes.{byteAt, wordAt, wordBytes, allZero, records, wholeRecords}
-use Rattle.rules.specs.Limits.{recordBytes, codeBytes}
+use Rattle.rules.specs.Limits.{recordBytes, codeLimit}
 use Rattle.rules.specs.Number.{residue, signed}
-use Rattle.rules.specs.Refusals.{statusNumber, statusNumbered, unless, firstRefusal, lowestRefusal}
+use Rattle.rules.specs.Refusals.{unless, firstRefusal, lowestRefusal}
 use Rattle.rules.specs.declared.Instruction.{Instruction}
 use Rattle.rules.specs.declared.Instruction.the-variants.{Push, Throw, Add, Pop, Mark, Unmark, Set, Reset}
 use Rattle.rules.specs.declared.Reason.{Reason}
@@ -28,18 +30,18 @@ use Rattle.rules.specs.declared.Refusal.{Refusal}
 -- ---- written
 
 -- "byte 0 the opcode, bytes 1 to 3 zero, bytes 4 to 7 the operand, zero where none"
-unfoldable pub instructionOf : ℕ → ℕ → List ℕ
-instructionOf opcode operand = opcode ∷ 0 ∷ 0 ∷ 0 ∷ wordBytes operand
+unfoldable pub instructionRecord : ℕ → ℕ → List ℕ
+instructionRecord opcode operand = opcode ∷ 0 ∷ 0 ∷ 0 ∷ wordBytes operand
 
 unfoldable pub instructionBytes : Instruction → List ℕ
-instructionBytes (Push n) = instructionOf 1 (residue n)
-instructionBytes Throw = instructionOf 2 0
-instructionBytes Add = instructionOf 3 0
-instructionBytes Pop = instructionOf 4 0
-instructionBytes (Mark t) = instructionOf 5 t
-instructionBytes (Unmark t) = instructionOf 6 t
-instructionBytes (Set i) = instructionOf 7 (statusNumber i)
-instructionBytes Reset = instructionOf 8 0
+instructionBytes (Push n) = instructionRecord 1 (residue n)
+instructionBytes Throw = instructionRecord 2 0
+instructionBytes Add = instructionRecord 3 0
+instructionBytes Pop = instructionRecord 4 0
+instructionBytes (Mark t) = instructionRecord 5 t
+instructionBytes (Unmark t) = instructionRecord 6 t
+instructionBytes (Set i) = instructionRecord 7 (statusNumber i)
+instructionBytes Reset = instructionRecord 8 0
 
 unfoldable pub bytesOf : List Instruction → List ℕ
 bytesOf [] = []
@@ -47,21 +49,18 @@ bytesOf (x ∷ xs) = instructionBytes x ++ bytesOf xs
 
 -- ---- read
 
-pub data Operand : Type 0 where
-  Absent : Operand
-  Number : Operand
-  Target : Operand
-  Status : Operand
+pub data Form : Type 0 where
+  Absent Number Target Status : Form
 
-pub record Opcode : Type 0 where
-  pub operand : Operand
+pub record OpcodeRow : Type 0 where
+  pub operand : Form
   pub instruction : ℕ → Instruction
 
-abbrev opcode : Operand → (ℕ → Instruction) → Opcode
+abbrev opcode : Form → (ℕ → Instruction) → OpcodeRow
 opcode operand instruction = record { operand = operand; instruction = instruction }
 
 -- opcodes 1 to 8
-unfoldable pub opcodes : List Opcode
+unfoldable pub opcodes : List OpcodeRow
 opcodes =
     opcode Number (λ word. Push (signed word))
     ∷ opcode Absent (λ word. Throw)
@@ -73,11 +72,11 @@ opcodes =
     ∷ opcode Absent (λ word. Reset)
     ∷ []
 
-unfoldable pub opcodeNumbered : ℕ → Option Opcode
+unfoldable pub opcodeNumbered : ℕ → Option OpcodeRow
 opcodeNumbered zero = none
 opcodeNumbered (suc k) = getElem? opcodes k
 
-unfoldable pub opcodeAt : List ℕ → ℕ → Option Opcode
+unfoldable pub opcodeAt : List ℕ → ℕ → Option OpcodeRow
 opcodeAt code a = opcodeNumbered (byteAt code (recordBytes * a))
 
 abbrev pub operandAt : List ℕ → ℕ → ℕ
@@ -98,14 +97,14 @@ instructions code = instructionsBelow code (records code)
 -- ---- tested
 
 -- "an absent operand not zero, or SET operand not 0 or 1"
-unfoldable pub operandFits : Operand → ℕ → Bool
+unfoldable pub operandFits : Form → ℕ → Bool
 operandFits Absent word = eqb word 0
 operandFits Number word = true
 operandFits Target word = true
 operandFits Status word = ltb word 2
 
 -- "target not above its own address, or above the length"
-unfoldable pub targetFits : Operand → ℕ → ℕ → ℕ → Bool
+unfoldable pub targetFits : Form → ℕ → ℕ → ℕ → Bool
 targetFits Absent word a n = true
 targetFits Number word a n = true
 targetFits Target word a n = ltb a word && leb word n
@@ -122,6 +121,6 @@ instructionTest code a =
 -- "9; then each instruction upward for 10, 11, 12"
 unfoldable pub codeTests : List ℕ → List (Option Refusal)
 codeTests code =
-    unless (wholeRecords codeBytes code) CodeSize 0
+    unless (wholeRecords codeLimit code) CodeSize 0
     ∷ lowestRefusal (instructionTest code) (records code)
     ∷ []

@@ -1,14 +1,13 @@
--- Demand 3, before bytes: what is claimed of an expression of n nodes and a starting status (001, section 10, as the order
--- puts it). It is proved in proofs/Demand.antt for every expression of at most 512 nodes.
+-- Demand 3, before bytes: what is claimed of an expression of n nodes and a starting status (001, section 10, in the order's
+-- words). proofs/Demand.antt proves it of every expression of at most 512 nodes.
 --
---   ofExpression        the run of an expression's compiled code under a placing
---   mostSteps           3n - 1
---   mostReached         2n - 1
---   Ends                an answer is a permitted number or throw, within both
---   AsksNothingFrom     a placing that asks for no recall from some instruction on
---   MeetsEnd            a placing under which the run ends so
---   Meets               a state is met in a run
---   Demand              the claim
+--   ofExpression      the run of an expression's compiled code under a placing
+--   mostSteps         3n - 1
+--   mostReached       2n - 1, also the most instructions of its code
+--   Ends              an answer is a permitted number or throw, within both
+--   AsksNothingFrom   a placing asks for no recall from some instruction on
+--   Meets             a run from one state comes to another
+--   Demand            the claim
 --
 -- Assumes nothing.
 use Prim.Native.Nat.{ℕ, _*_, _-_, _≤_}
@@ -17,7 +16,7 @@ use mathlib.Core.Bool.{false}
 use mathlib.Core.List.{List}
 use mathlib.Core.Logic.{_↔_}
 use mathlib.Core.Path.{_≡_}
-use Rattle.rules.specs.Code.{compile}
+use Rattle.rules.specs.Code.{codeLength, compile}
 use Rattle.rules.specs.Evaluation.{Gives, quiet}
 use Rattle.rules.specs.Expression.{Expression, nodes}
 use Rattle.rules.specs.Machine.{State, fresh, Placing, Next, step}
@@ -47,21 +46,25 @@ pub record Ends (e : Expression) (i : Status) (a : Answer) : Type 0 where
 abbrev pub AsksNothingFrom : ℕ → Placing → Type 0
 AsksNothingFrom n asks = (k : ℕ) → n ≤ k → asks k ≡ false
 
+abbrev pub noRecall : Placing
+noRecall k = false
+
 pub data Meets (code : List Instruction) (asks : Placing) : State → State → Type 0 where
   here : {s : State} → Meets code asks s s
   later : {s next met : State} → step code asks s ≡ Next next → Meets code asks next met → Meets code asks s met
 
-abbrev pub noRecall : Placing
-noRecall k = false
-
 pub record Demand (e : Expression) (i : Status) : Type 0 where
-  -- every placing ends in a permitted number or throw, and within the bounds
+  -- "Every placing, however long, ends in a number or a throw within 3n - 1 steps", and the rules permit that end
   pub ends : (asks : Placing) → Ends e i (ofExpression e asks i)
-  -- no state that is met holds more items than there are nodes
-  pub items : (asks : Placing) (s : State) → Meets (compile 0 e) asks (fresh i) s → length (s .items) ≤ nodes e
-  -- each permitted end is met by a placing over the first 2n - 1 instructions reached
+  -- "each permitted end is met by a placing over the first 2n - 1 instructions reached"
   pub meets : (v : End) → Gives e i v → (asks : Placing) × AsksNothingFrom (mostReached e) asks × (ofExpression e asks i .outcome ≡ Ended v)
-  -- an end is met under some placing exactly when it is permitted
+  -- "a number, or a throw, is the end of its compiled code under some placing exactly when the evaluation rules permit that end"
   pub exactly : (v : End) → ((asks : Placing) × (ofExpression e asks i .outcome ≡ Ended v)) ↔ Gives e i v
-  -- the end that no recall gives
+  -- the stack never holds more items than there are nodes
+  pub items : (asks : Placing) (s : State) → Meets (compile 0 e) asks (fresh i) s → length (s .items) ≤ nodes e
+  -- "The code length is the sum of the last column above, at most 2n - 1"
+  pub column : length (compile 0 e) ≡ codeLength e
+  pub short : codeLength e ≤ mostReached e
+  -- the end that no recall gives is the expression's own, and permitted
   pub quietly : ofExpression e noRecall i .outcome ≡ Ended (quiet e)
+  pub quietGiven : Gives e i (quiet e)

@@ -1,10 +1,10 @@
 -- The sizes that document 01 fixes ("The recipe table", "One step of the machine", "Refusal numbers").
 --
---   recordBytes      a node, an instruction and an item take 8 bytes each
---   tableBytes       512 nodes
---   codeBytes        1,023 instructions, twice 512 less 1
---   itemLimit        items on the stack, and stackBytes for them
---   stepLimit        steps of a run
+--   recordBytes   the bytes of a node, of an instruction and of an item
+--   nodeLimit     the nodes of a table, and `tableLimit`, its bytes
+--   codeLimit     the bytes of a code: 1,023 instructions
+--   itemLimit     the items on the stack, and `stackBytes`, the bytes lent for them
+--   stepLimit     the steps of a run
 --
 -- Assumes nothing.
 use Prim.Native.Nat.{ℕ}
@@ -12,11 +12,14 @@ use Prim.Native.Nat.{ℕ}
 abbrev pub recordBytes : ℕ
 recordBytes = 8
 
-abbrev pub tableBytes : ℕ
-tableBytes = 4096
+abbrev pub nodeLimit : ℕ
+nodeLimit = 512
 
-abbrev pub codeBytes : ℕ
-codeBytes = 8184
+abbrev pub tableLimit : ℕ
+tableLimit = 4096
+
+abbrev pub codeLimit : ℕ
+codeLimit = 8184
 
 abbrev pub itemLimit : ℕ
 itemLimit = 512

@@ -7,7 +7,7 @@ use Prim.Native.Nat.{ℕ, _*_}
 use lib.ListN.{take, replicate}
 use mathlib.Core.List.{List}
 use Rattle.rules.specs.Compiling.{compileAnswer, compileLeaves}
-use Rattle.rules.specs.Limits.{recordBytes, codeBytes, stackBytes}
+use Rattle.rules.specs.Limits.{recordBytes, codeLimit, stackBytes}
 use Rattle.rules.specs.Running.{runAnswer, refusedAnswer}
 use Rattle.rules.specs.declared.Compiled.{Compiled}
 use Rattle.rules.specs.declared.Compiled.the-variants.{Length, Refused}
@@ -15,6 +15,6 @@ use Rattle.rules.specs.declared.Answer.{Answer}
 
 unfoldable pub rehearse : ℕ → List ℕ → List ℕ → Answer
 rehearse status table schedule =
-    let buffer : List ℕ = replicate codeBytes 0 in
+    let buffer : List ℕ = replicate codeLimit 0 in
     elim (compileAnswer table buffer) [ Length n ↦ runAnswer status (take (recordBytes * n) (compileLeaves table buffer)) schedule (replicate stackBytes 0)
     | Refused r ↦ refusedAnswer r ]

@@ -12,9 +12,10 @@ use lib.Dec.{ltb, leb}
 use lib.ListN.{length, drop, replicate}
 use mathlib.Core.List.{List, [], _∷_, _++_}
 use mathlib.Core.Option.{Option, none, some}
+use Rattle.rules.specs.Answers.{statusNumbered}
 use Rattle.rules.specs.CodeBytes.{instructions, codeTests}
 use Rattle.rules.specs.Limits.{stackBytes}
-use Rattle.rules.specs.Refusals.{statusNumbered, unless, firstRefusal}
+use Rattle.rules.specs.Refusals.{unless, firstRefusal}
 use Rattle.rules.specs.Run.{runs}
 use Rattle.rules.specs.Schedule.{asks}
 use Rattle.rules.specs.declared.Reason.{Reason}

@@ -1,6 +1,6 @@
 -- The recipe table and its tests 1 to 5 (document 01, "The recipe table" and "Refusal numbers").
 --
---   Kind, kinds    document 01's table of kinds: the node made, where its operands stand, which bytes are zero
+--   kinds          document 01's table of kinds: the node made, where its operands stand, which bytes are zero
 --   nodeAt         the node that a record says
 --   nodeTest       tests 2, 3 and 4 of a node
 --   uses           how often a node is an operand
@@ -16,7 +16,7 @@ use mathlib.Core.Bool.{Bool, true, cond, _&&_}
 use mathlib.Core.List.{List, [], _∷_}
 use mathlib.Core.Option.{Option, none, some}
 use Rattle.rules.specs.Bytes.{byteAt, halfAt, wordAt, allZero, records, wholeRecords}
-use Rattle.rules.specs.Limits.{recordBytes, tableBytes}
+use Rattle.rules.specs.Limits.{recordBytes, tableLimit}
 use Rattle.rules.specs.Number.{signed}
 use Rattle.rules.specs.Refusals.{unless, firstRefusal, lowestRefusal}
 use Rattle.rules.specs.declared.Node.{Node}
@@ -27,7 +27,7 @@ use Rattle.rules.specs.declared.Refusal.{Refusal}
 
 -- ---- kinds
 
-pub record Kind : Type 0 where
+pub record KindRow : Type 0 where
   -- from the number and the two operands
   pub node : ℤ → ℕ → ℕ → Node
   -- the first byte of each operand
@@ -35,11 +35,11 @@ pub record Kind : Type 0 where
   -- "byte 1 is zero", and "fields a kind doesn't use are zero"
   pub zeros : List ℕ
 
-abbrev kind : (ℤ → ℕ → ℕ → Node) → List ℕ → List ℕ → Kind
+abbrev kind : (ℤ → ℕ → ℕ → Node) → List ℕ → List ℕ → KindRow
 kind node operands zeros = record { node = node; operands = operands; zeros = zeros }
 
 -- kinds 1 to 7
-unfoldable pub kinds : List Kind
+unfoldable pub kinds : List KindRow
 kinds =
     kind (λ n left right. Val n) [] (1 ∷ 2 ∷ 3 ∷ [])
     ∷ kind (λ n left right. Throw) [] (1 ∷ 2 ∷ 3 ∷ 4 ∷ 5 ∷ 6 ∷ 7 ∷ [])
@@ -50,11 +50,11 @@ kinds =
     ∷ kind (λ n left right. Unblock left) (2 ∷ []) (1 ∷ 4 ∷ 5 ∷ 6 ∷ 7 ∷ [])
     ∷ []
 
-unfoldable pub kindNumbered : ℕ → Option Kind
+unfoldable pub kindNumbered : ℕ → Option KindRow
 kindNumbered zero = none
 kindNumbered (suc k) = getElem? kinds k
 
-unfoldable pub kindAt : List ℕ → ℕ → Option Kind
+unfoldable pub kindAt : List ℕ → ℕ → Option KindRow
 kindAt table j = kindNumbered (byteAt table (recordBytes * j))
 
 -- ---- nodes
@@ -107,7 +107,7 @@ useTest table j = unless (eqb (uses table (records table) j) 1) Uses j
 
 unfoldable pub tableTests : List ℕ → List (Option Refusal)
 tableTests table =
-    unless (wholeRecords tableBytes table) TableSize 0
+    unless (wholeRecords tableLimit table) TableSize 0
     ∷ lowestRefusal (nodeTest table) (records table)
     ∷ lowestRefusal (useTest table) (records table - 1)
     ∷ []
