@@ -112,12 +112,13 @@ module _ (e : Expression) (small : nodes e ≤ nodeLimit) (i : Status) where
   pub demand : Demand e i
   demand =
       let q : Quietly e i (quiet e) = quietly-gives e i in
-      record
-      { ends = ends
-      ; meets = meets
-      ; exactly = λ v. ((λ p. only-permitted v (p .0) (p .1)), λ d. (meets v d .0, meets v d .2))
-      ; items = λ asks s met. let f : Finish asks = finish asks in met-fits (f .path) (f .finishes) (omega arith) met
-      ; column = length-compile 0 e
-      ; short = short
-      ; quietly = comes-to (q .gives) (silent-reads (q .silently [] empty) 0)
-      ; quietGiven = q .gives }
+      record {
+        ends = ends;
+        meets = meets;
+        exactly = λ v. ((λ p. only-permitted v (p .0) (p .1)), λ d. (meets v d .0, meets v d .2));
+        items = λ asks s met. let f : Finish asks = finish asks in met-fits (f .path) (f .finishes) (omega arith) met;
+        column = length-compile 0 e;
+        short = short;
+        quietly = comes-to (q .gives) (silent-reads (q .silently [] empty) 0);
+        quietGiven = q .gives;
+      }

@@ -74,10 +74,11 @@ scope-holds : {code : List Instruction} (i : Status) (a : ℕ) (x : Expression) 
     → Has code a (Set i) × Holds code (a + 1) x (a + 1 + codeLength x) × Has code (a + 1 + codeLength x) Reset
 scope-holds i a x front back l e inner =
     let first : length (front ++ Set i ∷ []) ≡ a + 1 = simp length-append (omega arith) in
-    let last : length (front ++ Set i ∷ compile (a + 1) x) ≡ a + 1 + codeLength x = simp (length-append, length-compile) (omega arith) in
-    ( has front (compile (a + 1) x ++ Reset ∷ back) l (e ∙ simp append-assoc)
-    , inner (front ++ Set i ∷ []) (Reset ∷ back) first (e ∙ simp append-assoc)
-    , has (front ++ Set i ∷ compile (a + 1) x) back last (e ∙ simp append-assoc) )
+    let last : length (front ++ Set i ∷ compile (a + 1) x) ≡ a + 1 + codeLength x = simp (length-append, length-compile) (omega arith) in (
+      has front (compile (a + 1) x ++ Reset ∷ back) l (e ∙ simp append-assoc),
+      inner (front ++ Set i ∷ []) (Reset ∷ back) first (e ∙ simp append-assoc),
+      has (front ++ Set i ∷ compile (a + 1) x) back last (e ∙ simp append-assoc),
+    )
 
 pub compile-holds : {code : List Instruction} (a : ℕ) (e : Expression) (front back : List Instruction) → length front ≡ a
     → code ≡ front ++ (compile a e ++ back) → Holds code a e (a + codeLength e)
@@ -119,7 +120,7 @@ compile-holds {code} a (Catch x y) front back l e =
     let marked : Has code a (Mark (b + 1)) = rw start (has front (compile (a + 1) x ++ unmark ∷ compile handler y ++ back) l (e ∙ simp append-assoc)) in
     let unmarked : Has code b (Unmark c) = has (front ++ mark ∷ compile (a + 1) x) (compile handler y ++ back) lb (e ∙ simp append-assoc) in
     let handled : Holds code (b + 1) y c =
-        rw start (compile-holds handler y (front ++ mark ∷ compile (a + 1) x ++ unmark ∷ []) back ly (e ∙ simp append-assoc)) in
+    rw start (compile-holds handler y (front ++ mark ∷ compile (a + 1) x ++ unmark ∷ []) back ly (e ∙ simp append-assoc)) in
     rw end
     (catch
     marked

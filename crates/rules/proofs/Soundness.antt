@@ -80,10 +80,11 @@ module _ {code : List Instruction} {asks : Placing} {room : ℕ} (small : room �
         let f₀ : length s ≤ room = omega arith in
         let f₁ : suc (length s) ≤ room = omega arith in
         let f₂ : suc (suc (length s)) ≤ room = omega (arith, nodes-pos x) in
-        elim (strikes j (asks r′))
-        [ calm c ↦ number n (t′ + 1) (r′ + 1) (rule (End.Number n) g) (omega arith) (omega arith) (path ▹ path′ ▹ go reset c refl f₁ ▸ done)
-        | struck int c ↦ throws (t′ + 1 + 1 + 1) (r′ + 1) (rule End.Throw (int x)) (omega arith) (omega arith)
-        (path ▹ path′ ▹ cut reset c f₂ ▸ drop f₁ ▸ restore f₀ ▸ done) ]
+        elim (strikes j (asks r′)) [
+          | calm c ↦ number n (t′ + 1) (r′ + 1) (rule (End.Number n) g) (omega arith) (omega arith) (path ▹ path′ ▹ go reset c refl f₁ ▸ done)
+          | struck int c ↦ throws (t′ + 1 + 1 + 1) (r′ + 1) (rule End.Throw (int x)) (omega arith) (omega arith)
+              (path ▹ path′ ▹ cut reset c f₂ ▸ drop f₁ ▸ restore f₀ ▸ done)
+        ]
 
     scope-lands : Lands code asks room x j (Saved i ∷ s) b (t + 1) (r + 1) (running (a + 1) j (Saved i ∷ s) (t + 1) (r + 1))
         → Lands code asks room e i s (b + 1) t r (running a i s t r)
@@ -91,9 +92,10 @@ module _ {code : List Instruction} {asks : Placing} {room : ℕ} (small : room �
     scope-lands inner =
         let f₀ : length s ≤ room = omega arith in
         let f₁ : suc (length s) ≤ room = omega arith in
-        elim (strikes i (asks r))
-        [ calm c ↦ reset-lands (pushes small set c refl f₁ ▸ done) inner
-        | struck int c ↦ throws (t + 1) (r + 1) (int e) (omega arith) (omega arith) (cut set c f₀ ▸ done) ]
+        elim (strikes i (asks r)) [
+          | calm c ↦ reset-lands (pushes small set c refl f₁ ▸ done) inner
+          | struck int c ↦ throws (t + 1) (r + 1) (int e) (omega arith) (omega arith) (cut set c f₀ ▸ done)
+        ]
 
   -- ---- every expression
 
@@ -103,53 +105,64 @@ module _ {code : List Instruction} {asks : Placing} {room : ℕ} (small : room �
   lands (val {n = n} h) i s t r f =
       let f₀ : length s ≤ room = omega arith in
       let f₁ : suc (length s) ≤ room = omega arith in
-      elim (strikes i (asks r))
-      [ calm c ↦ number n (t + 1) (r + 1) VAL (omega arith) (omega arith) (pushes small h c refl f₁ ▸ done)
-      | struck int c ↦ throws (t + 1) (r + 1) (int (Val n)) (omega arith) (omega arith) (cut h c f₀ ▸ done) ]
+      elim (strikes i (asks r)) [
+        | calm c ↦ number n (t + 1) (r + 1) VAL (omega arith) (omega arith) (pushes small h c refl f₁ ▸ done)
+        | struck int c ↦ throws (t + 1) (r + 1) (int (Val n)) (omega arith) (omega arith) (cut h c f₀ ▸ done)
+      ]
   lands (throw h) i s t r f =
       let f₀ : length s ≤ room = omega arith in
-      elim (strikes i (asks r))
-      [ calm c ↦ throws (t + 1) (r + 1) THROW (omega arith) (omega arith) (go h c refl f₀ ▸ done)
-      | struck int c ↦ throws (t + 1) (r + 1) (int Throw) (omega arith) (omega arith) (cut h c f₀ ▸ done) ]
+      elim (strikes i (asks r)) [
+        | calm c ↦ throws (t + 1) (r + 1) THROW (omega arith) (omega arith) (go h c refl f₀ ▸ done)
+        | struck int c ↦ throws (t + 1) (r + 1) (int Throw) (omega arith) (omega arith) (cut h c f₀ ▸ done)
+      ]
   lands (add {x = x} {y = y} hx hy h) i s t r f =
       let f₀ : length s ≤ room = omega arith in
       let f₁ : suc (length s) ≤ room = omega arith in
       let f₂ : suc (suc (length s)) ≤ room = omega (arith, nodes-pos x) in
-      elim (lands hx i s t r (omega arith))
-      [ throws t′ r′ g p q path ↦ throws t′ r′ (ADD2 g) (omega arith) (omega arith) path
-      | number n t′ r′ g p q path ↦ elim (lands hy i (Number n ∷ s) t′ r′ (omega (arith, nodes-pos x)))
-        [ throws t″ r″ g′ p′ q′ path′ ↦ throws (t″ + 1) r″ (ADD3 g g′) (omega arith) (omega arith) (path ▹ path′ ▹ drop f₀ ▸ done)
-        | number m t″ r″ g′ p′ q′ path′ ↦ elim (strikes i (asks r″))
-          [ calm c ↦ number (sum n m) (t″ + 1) (r″ + 1) (ADD1 g g′) (omega arith) (omega arith) (path ▹ path′ ▹ go h c refl f₁ ▸ done)
-          | struck int c ↦ throws (t″ + 1 + 1 + 1) (r″ + 1) (int (Add x y)) (omega arith) (omega arith)
-            (path ▹ path′ ▹ cut h c f₂ ▸ drop f₁ ▸ drop f₀ ▸ done) ] ] ]
+      elim (lands hx i s t r (omega arith)) [
+        | throws t′ r′ g p q path ↦ throws t′ r′ (ADD2 g) (omega arith) (omega arith) path
+        | number n t′ r′ g p q path ↦ elim (lands hy i (Number n ∷ s) t′ r′ (omega (arith, nodes-pos x))) [
+          | throws t″ r″ g′ p′ q′ path′ ↦ throws (t″ + 1) r″ (ADD3 g g′) (omega arith) (omega arith) (path ▹ path′ ▹ drop f₀ ▸ done)
+          | number m t″ r″ g′ p′ q′ path′ ↦ elim (strikes i (asks r″)) [
+            | calm c ↦ number (sum n m) (t″ + 1) (r″ + 1) (ADD1 g g′) (omega arith) (omega arith) (path ▹ path′ ▹ go h c refl f₁ ▸ done)
+            | struck int c ↦ throws (t″ + 1 + 1 + 1) (r″ + 1) (int (Add x y)) (omega arith) (omega arith)
+                (path ▹ path′ ▹ cut h c f₂ ▸ drop f₁ ▸ drop f₀ ▸ done)
+          ]
+        ]
+      ]
   lands (seqn {x = x} {y = y} hx h hy) i s t r f =
       let f₀ : length s ≤ room = omega arith in
       let f₁ : suc (length s) ≤ room = omega arith in
-      elim (lands hx i s t r (omega arith))
-      [ throws t′ r′ g p q path ↦ throws t′ r′ (SEQN2 g) (omega arith) (omega arith) path
-      | number n t′ r′ g p q path ↦ elim (strikes i (asks r′))
-        [ struck int c ↦ throws (t′ + 1 + 1) (r′ + 1) (int (Seqn x y)) (omega arith) (omega arith) (path ▹ cut h c f₁ ▸ drop f₀ ▸ done)
-        | calm c ↦ elim (lands hy i s (t′ + 1) (r′ + 1) (omega arith))
-          [ throws t″ r″ g′ p′ q′ path′ ↦ throws t″ r″ (SEQN1 g g′) (omega arith) (omega arith) (path ▹ go h c refl f₀ ▸ path′)
-          | number m t″ r″ g′ p′ q′ path′ ↦ number m t″ r″ (SEQN1 g g′) (omega arith) (omega arith) (path ▹ go h c refl f₀ ▸ path′) ] ] ]
+      elim (lands hx i s t r (omega arith)) [
+        | throws t′ r′ g p q path ↦ throws t′ r′ (SEQN2 g) (omega arith) (omega arith) path
+        | number n t′ r′ g p q path ↦ elim (strikes i (asks r′)) [
+          | struck int c ↦ throws (t′ + 1 + 1) (r′ + 1) (int (Seqn x y)) (omega arith) (omega arith) (path ▹ cut h c f₁ ▸ drop f₀ ▸ done)
+          | calm c ↦ elim (lands hy i s (t′ + 1) (r′ + 1) (omega arith)) [
+            | throws t″ r″ g′ p′ q′ path′ ↦ throws t″ r″ (SEQN1 g g′) (omega arith) (omega arith) (path ▹ go h c refl f₀ ▸ path′)
+            | number m t″ r″ g′ p′ q′ path′ ↦ number m t″ r″ (SEQN1 g g′) (omega arith) (omega arith) (path ▹ go h c refl f₀ ▸ path′)
+          ]
+        ]
+      ]
   lands (catch {b = b} {x = x} {y = y} mark hx unmark hy) i s t r f =
       let f₀ : length s ≤ room = omega arith in
       let f₁ : suc (length s) ≤ room = omega arith in
       let f₂ : suc (suc (length s)) ≤ room = omega (arith, nodes-pos x) in
-      elim (strikes i (asks r))
-      [ struck int c ↦ throws (t + 1) (r + 1) (int (Catch x y)) (omega arith) (omega arith) (cut mark c f₀ ▸ done)
-      | calm c ↦ elim (lands hx i (Handler (b + 1) ∷ s) (t + 1) (r + 1) (omega (arith, nodes-pos y)))
-        [ throws t′ r′ g p q path ↦
-          handler-lands g (omega arith) (omega arith) (pushes small mark c refl f₁ ▸ path ▹ handle f₀ ▸ done)
-          (lands hy i s (t′ + 1) r′ (omega arith))
-        | number n t′ r′ g p q path ↦ elim (strikes i (asks r′))
-          [ calm c′ ↦ number n (t′ + 1) (r′ + 1) (CATCH1 g) (omega arith) (omega arith)
-            (pushes small mark c refl f₁ ▸ path ▹ go unmark c′ refl f₁ ▸ done)
-          | struck int c′ ↦
-            handler-lands (int x) (omega arith) (omega arith)
-            (pushes small mark c refl f₁ ▸ path ▹ cut unmark c′ f₂ ▸ drop f₁ ▸ handle f₀ ▸ done)
-            (lands hy i s (t′ + 1 + 1 + 1) (r′ + 1) (omega arith)) ] ] ]
+      elim (strikes i (asks r)) [
+        | struck int c ↦ throws (t + 1) (r + 1) (int (Catch x y)) (omega arith) (omega arith) (cut mark c f₀ ▸ done)
+        | calm c ↦ elim (lands hx i (Handler (b + 1) ∷ s) (t + 1) (r + 1) (omega (arith, nodes-pos y))) [
+          | throws t′ r′ g p q path ↦
+              handler-lands g (omega arith) (omega arith) (pushes small mark c refl f₁ ▸ path ▹ handle f₀ ▸ done)
+              (lands hy i s (t′ + 1) r′ (omega arith))
+          | number n t′ r′ g p q path ↦ elim (strikes i (asks r′)) [
+            | calm c′ ↦ number n (t′ + 1) (r′ + 1) (CATCH1 g) (omega arith) (omega arith)
+                (pushes small mark c refl f₁ ▸ path ▹ go unmark c′ refl f₁ ▸ done)
+            | struck int c′ ↦
+                handler-lands (int x) (omega arith) (omega arith)
+                (pushes small mark c refl f₁ ▸ path ▹ cut unmark c′ f₂ ▸ drop f₁ ▸ handle f₀ ▸ done)
+                (lands hy i s (t′ + 1 + 1 + 1) (r′ + 1) (omega arith))
+          ]
+        ]
+      ]
   lands (block set hx reset) i s t r f =
       scope-lands (λ v g. BLOCK g) refl set reset f (lands hx Blocked (Saved i ∷ s) (t + 1) (r + 1) (omega arith))
   lands (unblock set hx reset) i s t r f =

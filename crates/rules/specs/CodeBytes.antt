@@ -112,11 +112,13 @@ targetFits Status word a n = true
 
 unfoldable pub instructionTest : List ℕ → ℕ → Option Refusal
 instructionTest code a =
-    elim (opcodeAt code a) [ none ↦ some (record { reason = Reason.Opcode; place = a })
-    | some o ↦ firstRefusal
-    ( unless (allZero code (recordBytes * a) (1 ∷ 2 ∷ 3 ∷ []) && operandFits (o .operand) (operandAt code a)) Field a
-    ∷ unless (targetFits (o .operand) (operandAt code a) a (records code)) Reason.Target a
-    ∷ []) ]
+    elim (opcodeAt code a) [
+      | none ↦ some (record { reason = Reason.Opcode; place = a })
+      | some o ↦ firstRefusal
+          (unless (allZero code (recordBytes * a) (1 ∷ 2 ∷ 3 ∷ []) && operandFits (o .operand) (operandAt code a)) Field a
+          ∷ unless (targetFits (o .operand) (operandAt code a) a (records code)) Reason.Target a
+          ∷ [])
+    ]
 
 -- "9; then each instruction upward for 10, 11, 12"
 unfoldable pub codeTests : List ℕ → List (Option Refusal)

@@ -16,5 +16,7 @@ use Rattle.rules.specs.declared.Answer.{Answer}
 unfoldable pub rehearse : ℕ → List ℕ → List ℕ → Answer
 rehearse status table schedule =
     let buffer : List ℕ = replicate codeLimit 0 in
-    elim (compileAnswer table buffer) [ Length n ↦ runAnswer status (take (recordBytes * n) (compileLeaves table buffer)) schedule (replicate stackBytes 0)
-    | Refused r ↦ refusedAnswer r ]
+    elim (compileAnswer table buffer) [
+      | Length n ↦ runAnswer status (take (recordBytes * n) (compileLeaves table buffer)) schedule (replicate stackBytes 0)
+      | Refused r ↦ refusedAnswer r
+    ]

@@ -63,8 +63,10 @@ kindAt table j = kindNumbered (byteAt table (recordBytes * j))
 unfoldable pub nodeAt : List ℕ → ℕ → Node
 nodeAt table j =
     let base : ℕ = recordBytes * j in
-    elim (kindAt table j) [ none ↦ Throw
-    | some k ↦ k .node (signed (wordAt table (base + 4))) (halfAt table (base + 2)) (halfAt table (base + 4)) ]
+    elim (kindAt table j) [
+      | none ↦ Throw
+      | some k ↦ k .node (signed (wordAt table (base + 4))) (halfAt table (base + 2)) (halfAt table (base + 4))
+    ]
 
 -- "an operand is a node number below the node that names it"
 unfoldable pub operandsBelow : List ℕ → ℕ → List ℕ → Bool
@@ -73,11 +75,13 @@ operandsBelow table j (offset ∷ offsets) = ltb (halfAt table (recordBytes * j 
 
 unfoldable pub nodeTest : List ℕ → ℕ → Option Refusal
 nodeTest table j =
-    elim (kindAt table j) [ none ↦ some (record { reason = Reason.Kind; place = j })
-    | some k ↦ firstRefusal
-    ( unless (allZero table (recordBytes * j) (k .zeros)) UnusedByte j
-    ∷ unless (operandsBelow table j (k .operands)) Operand j
-    ∷ []) ]
+    elim (kindAt table j) [
+      | none ↦ some (record { reason = Reason.Kind; place = j })
+      | some k ↦ firstRefusal
+          (unless (allZero table (recordBytes * j) (k .zeros)) UnusedByte j
+          ∷ unless (operandsBelow table j (k .operands)) Operand j
+          ∷ [])
+    ]
 
 -- ---- uses
 
