@@ -87,7 +87,7 @@ module _ (code : List Instruction) (asks : Placing) (room : ℕ) where
   pub data Comes (from : State) (u : ℕ → ℕ → State) (row : List Bool) : Type 0 where
     by : {t r : ℕ} → Path code asks room from (u t r) → Reads asks r row → Comes from u row
 
-module _ {code : List Instruction} {asks : Placing} {room : ℕ} {from : State} {u w : ℕ → ℕ → State} {row : List Bool} where
+module _ {code : List Instruction} {asks : Placing} {room : ℕ} {from : State} {u w : ℕ → ℕ → State} (row : List Bool) where
   -- an instruction carried out
   carry : ((t r : ℕ) → asks r ≡ false → Goes code asks room (u t r) (w (t + 1) (r + 1))) → Comes code asks room from u (false ∷ row) → Comes code asks room from w row
   carry g (by {t = t} {r = r} path (bit e reads)) = by (path ▹ g t r e ▸ done) reads
@@ -113,52 +113,69 @@ arrival (End.Number n) b i s = running b i (Number n ∷ s)
 arrival End.Throw b i s = unwinding i s
 
 module _ {code : List Instruction} {asks : Placing} {room : ℕ} {from : State} (small : room ≤ itemLimit) where
-  struck : {a b : ℕ} {e : Expression} {s : List Item} {row : List Bool} → Holds code a e b → length s ≤ room
+  struck : {a b : ℕ} {e : Expression} {s : List Item} (row : List Bool) → Holds code a e b → length s ≤ room
       → Comes code asks room from (running a Unblocked s) (true ∷ row) → Comes code asks room from (unwinding Unblocked s) row
   unfolding cuts
-  struck h f (by path (bit e reads)) = by (path ▹ cut (first h .1) e f ▸ done) reads
+  struck row h f (by path (bit e reads)) = by (path ▹ cut (first h .1) e f ▸ done) reads
 
-  -- RESET after a number, a saved status restored after a throw: what Block and Unblock have in common
-  leave : (v : End) (i j : Status) (s : List Item) {b : ℕ} {row : List Bool} → Has code b Instruction.Reset → suc (length s) ≤ room
+  -- RESET after a number, a saved status restored after a throw
+  leave : (v : End) (i j : Status) (s : List Item) (row : List Bool) {b : ℕ} → Has code b Instruction.Reset → suc (length s) ≤ room
       → Comes code asks room from (arrival v b j (Saved i ∷ s)) (resetBits v row) → Comes code asks room from (arrival v (b + 1) i s) row
   unfolding resetBits execute withNumber withSaved
-  leave (End.Number n) i j s reset f p = carry (λ t r e. go reset (calmly j e) refl f) p
-  leave End.Throw i j s reset f p = let f₀ : length s ≤ room = omega arith in undo (λ t r. restore f₀) p
+  leave (End.Number n) i j s row reset f p = carry row (λ t r e. go reset (calmly j e) refl f) p
+  leave End.Throw i j s row reset f p = let f₀ : length s ≤ room = omega arith in undo row (λ t r. restore f₀) p
+
+  -- SET j, x, RESET: what Block and Unblock have in common
+  within : (v : End) (i j : Status) (s : List Item) (inside row : List Bool) {a b : ℕ} → Has code a (Instruction.Set j) → Has code b Instruction.Reset
+      → suc (length s) ≤ room
+      → (Comes code asks room from (running (a + 1) j (Saved i ∷ s)) inside → Comes code asks room from (arrival v b j (Saved i ∷ s)) (resetBits v row))
+      → Comes code asks room from (running a i s) (false ∷ inside) → Comes code asks room from (arrival v (b + 1) i s) row
+  unfolding execute
+  within v i j s inside row set reset f inner p =
+      leave v i j s row reset f (inner (carry inside (λ t r e. pushes small set (calmly i e) refl f) p))
 
   pub arrives : {e : Expression} {i : Status} {v : End} (d : Gives e i v) {a b : ℕ} → Holds code a e b → (s : List Item) → length s + nodes e ≤ room
-      → {row : List Bool} → Comes code asks room from (running a i s) (bits d row) → Comes code asks room from (arrival v b i s) row
+      → (row : List Bool) → Comes code asks room from (running a i s) (bits d row) → Comes code asks room from (arrival v b i s) row
   unfolding nodes bits execute withNumber withHandler withSaved
-  arrives (VAL {i = i}) (val h) s f p =
+  arrives (VAL {i = i}) (val h) s f row p =
       let f₁ : suc (length s) ≤ room = omega arith in
-      carry (λ t r e. pushes small h (calmly i e) refl f₁) p
-  arrives (THROW {i = i}) (throw h) s f p =
+      carry row (λ t r e. pushes small h (calmly i e) refl f₁) p
+  arrives (THROW {i = i}) (throw h) s f row p =
       let f₀ : length s ≤ room = omega arith in
-      carry (λ t r e. go h (calmly i e) refl f₀) p
-  arrives (ADD1 {x = x} {i = i} {n = n} dx dy) (add hx hy h) s f p =
+      carry row (λ t r e. go h (calmly i e) refl f₀) p
+  arrives (ADD1 {x = x} {i = i} {n = n} dx dy) (add hx hy h) s f row p =
       let f₁ : suc (length s) ≤ room = omega arith in
-      carry (λ t r e. go h (calmly i e) refl f₁) (arrives dy hy (Number n ∷ s) (omega (arith, nodes-pos x)) (arrives dx hx s (omega arith) p))
-  arrives (ADD2 dx) (add hx hy h) s f p = arrives dx hx s (omega arith) p
-  arrives (ADD3 {x = x} {n = n} dx dy) (add hx hy h) s f p =
+      carry row (λ t r e. go h (calmly i e) refl f₁)
+      (arrives dy hy (Number n ∷ s) (omega (arith, nodes-pos x)) (false ∷ row)
+      (arrives dx hx s (omega arith) (bits dy (false ∷ row)) p))
+  arrives (ADD2 dx) (add hx hy h) s f row p = arrives dx hx s (omega arith) row p
+  arrives (ADD3 {x = x} {n = n} dx dy) (add hx hy h) s f row p =
       let f₀ : length s ≤ room = omega arith in
-      undo (λ t r. drop f₀) (arrives dy hy (Number n ∷ s) (omega (arith, nodes-pos x)) (arrives dx hx s (omega arith) p))
-  arrives (SEQN1 {i = i} dx dy) (seqn hx h hy) s f p =
+      undo row (λ t r. drop f₀)
+      (arrives dy hy (Number n ∷ s) (omega (arith, nodes-pos x)) row
+      (arrives dx hx s (omega arith) (bits dy row) p))
+  arrives (SEQN1 {i = i} dx dy) (seqn hx h hy) s f row p =
       let f₀ : length s ≤ room = omega arith in
-      arrives dy hy s (omega arith) (carry (λ t r e. go h (calmly i e) refl f₀) (arrives dx hx s (omega arith) p))
-  arrives (SEQN2 dx) (seqn hx h hy) s f p = arrives dx hx s (omega arith) p
-  arrives (CATCH1 {y = y} {i = i} dx) (catch {b = b} mark hx unmark hy) s f p =
+      arrives dy hy s (omega arith) row
+      (carry (bits dy row) (λ t r e. go h (calmly i e) refl f₀)
+      (arrives dx hx s (omega arith) (false ∷ bits dy row) p))
+  arrives (SEQN2 dx) (seqn hx h hy) s f row p = arrives dx hx s (omega arith) row p
+  arrives (CATCH1 {y = y} {i = i} dx) (catch {b = b} mark hx unmark hy) s f row p =
       let f₁ : suc (length s) ≤ room = omega arith in
-      carry (λ t r e. go unmark (calmly i e) refl f₁)
-      (arrives dx hx (Handler (b + 1) ∷ s) (omega (arith, nodes-pos y)) (carry (λ t r e. pushes small mark (calmly i e) refl f₁) p))
-  arrives (CATCH2 {y = y} {i = i} dx dy) (catch {b = b} mark hx unmark hy) s f p =
+      carry row (λ t r e. go unmark (calmly i e) refl f₁)
+      (arrives dx hx (Handler (b + 1) ∷ s) (omega (arith, nodes-pos y)) (false ∷ row)
+      (carry (bits dx (false ∷ row)) (λ t r e. pushes small mark (calmly i e) refl f₁) p))
+  arrives (CATCH2 {y = y} {i = i} dx dy) (catch {b = b} mark hx unmark hy) s f row p =
       let f₀ : length s ≤ room = omega arith in
       let f₁ : suc (length s) ≤ room = omega arith in
-      arrives dy hy s (omega arith)
-      (undo (λ t r. handle f₀)
-      (arrives dx hx (Handler (b + 1) ∷ s) (omega (arith, nodes-pos y)) (carry (λ t r e. pushes small mark (calmly i e) refl f₁) p)))
-  arrives (BLOCK {i = i} {v = v} dx) (block set hx reset) s f p =
-      let f₁ : suc (length s) ≤ room = omega arith in
-      leave v i Blocked s reset f₁ (arrives dx hx (Saved i ∷ s) (omega arith) (carry (λ t r e. pushes small set (calmly i e) refl f₁) p))
-  arrives (UNBLOCK {i = i} {v = v} dx) (unblock set hx reset) s f p =
-      let f₁ : suc (length s) ≤ room = omega arith in
-      leave v i Unblocked s reset f₁ (arrives dx hx (Saved i ∷ s) (omega arith) (carry (λ t r e. pushes small set (calmly i e) refl f₁) p))
-  arrives INT h s f p = struck h (omega arith) p
+      arrives dy hy s (omega arith) row
+      (undo (bits dy row) (λ t r. handle f₀)
+      (arrives dx hx (Handler (b + 1) ∷ s) (omega (arith, nodes-pos y)) (bits dy row)
+      (carry (bits dx (bits dy row)) (λ t r e. pushes small mark (calmly i e) refl f₁) p)))
+  arrives (BLOCK {i = i} {v = v} dx) (block set hx reset) s f row p =
+      within v i Blocked s (bits dx (resetBits v row)) row set reset (omega arith)
+      (λ q. arrives dx hx (Saved i ∷ s) (omega arith) (resetBits v row) q) p
+  arrives (UNBLOCK {i = i} {v = v} dx) (unblock set hx reset) s f row p =
+      within v i Unblocked s (bits dx (resetBits v row)) row set reset (omega arith)
+      (λ q. arrives dx hx (Saved i ∷ s) (omega arith) (resetBits v row) q) p
+  arrives INT h s f row p = struck row h (omega arith) p

@@ -91,13 +91,13 @@ module _ (e : Expression) (small : nodes e ≤ nodeLimit) (i : Status) where
   comes-to : {asks : Placing} {v : End} (d : Gives e i v) → Reads asks 0 (bits d []) → ofExpression e asks i .outcome ≡ Ended v
   comes-to {asks} {v} d reads =
       let f : Finish asks = finish asks in
-      ap (λ a. a .outcome) (answered f) ∙ same-end v (arrives small d whole [] (omega arith) (by done reads)) f
+      ap (λ a. a .outcome) (answered f) ∙ same-end v (arrives small d whole [] (omega arith) [] (by done reads)) f
 
   meets : (v : End) → Gives e i v → (asks : Placing) × AsksNothingFrom (mostReached e) asks × (ofExpression e asks i .outcome ≡ Ended v)
   unfolding mostReached
   meets v d =
       let row : List Bool = bits d [] in
-      (placed row, placed-ends row (2 * nodes e - 1) (omega (arith, length-bits d [])), comes-to d (placed-reads row))
+      (placed row, placed-ends row (mostReached e) (omega (arith, length-bits d [])), comes-to d (placed-reads row))
 
   only-permitted : (v : End) (asks : Placing) → ofExpression e asks i .outcome ≡ Ended v → Gives e i v
   only-permitted v asks p =

@@ -1,6 +1,7 @@
 pub mod Along
 pub mod Completeness
 pub mod Demand
+pub mod Foreign
 pub mod Holding
 pub mod Order
 pub mod Path

@@ -15,8 +15,8 @@ use Rattle.rules.specs.Rehearsed.{rehearsedRecipes, AsRehearsed}
 use Rattle.rules.specs.Run.{run, runs}
 use Rattle.rules.specs.Running.{runTests, runAnswer}
 use Rattle.rules.specs.Schedule.{asks}
-use Rattle.rules.specs.Table.{kinds, kindNumbered, kindAt, nodeAt, operandsBelow, nodeTest, operandsOf, times, uses, useTest, tableTests}
+use Rattle.rules.specs.Table.{kinds, kindNumbered, kindAt, nodeOf, nodeAt, operandsOf, allBelow, nodeTest, times, uses, useTest, tableTests}
 
 pub as-rehearsed : AsRehearsed
-unfolding halfAt wordAt wordBytes allZero wholeRecords codeLength compile instructionRecord instructionBytes bytesOf opcodes opcodeNumbered opcodeAt instructionAt instructionsBelow instructions operandFits targetFits instructionTest codeTests codeOf compileTests compileAnswer compileLeaves withNumber withHandler withSaved withNothing push execute cuts atInstruction atLength unwind stepAt stepIn step residue signed sum ofNode expressionWithin expressionAt recipe statusNumber statusNumbered unless firstRefusal lowestRefusal rehearse rehearsedRecipes AsRehearsed run runs runTests runAnswer asks kinds kindNumbered kindAt nodeAt operandsBelow nodeTest operandsOf times uses useTest tableTests
+unfolding halfAt wordAt wordBytes allZero wholeRecords codeLength compile instructionRecord instructionBytes bytesOf opcodes opcodeNumbered opcodeAt instructionAt instructionsBelow instructions operandFits targetFits instructionTest codeTests codeOf compileTests compileAnswer compileLeaves withNumber withHandler withSaved withNothing push execute cuts atInstruction atLength unwind stepAt stepIn step residue signed sum ofNode expressionWithin expressionAt recipe statusNumber statusNumbered unless firstRefusal lowestRefusal rehearse rehearsedRecipes AsRehearsed run runs runTests runAnswer asks kinds kindNumbered kindAt nodeOf nodeAt operandsOf allBelow nodeTest times uses useTest tableTests
 as-rehearsed = refl

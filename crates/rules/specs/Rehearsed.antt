@@ -24,8 +24,9 @@ pub record Rehearsed : Type 0 where
 
 -- ---- words for the list
 
-abbrev record8 : ℕ → ℕ → ℕ → ℕ → ℕ → ℕ → ℕ → ℕ → List ℕ
-record8 a b c d e f g h = a ∷ b ∷ c ∷ d ∷ e ∷ f ∷ g ∷ h ∷ []
+-- the bytes of a record
+abbrev eight : ℕ → ℕ → ℕ → ℕ → ℕ → ℕ → ℕ → ℕ → List ℕ
+eight a b c d e f g h = a ∷ b ∷ c ∷ d ∷ e ∷ f ∷ g ∷ h ∷ []
 
 abbrev blocked : ℕ
 blocked = 0
@@ -52,35 +53,35 @@ comes status table schedule answer = record { status = status; table = table; sc
 -- ---- the tables
 
 abbrev val9 : List ℕ
-val9 = record8 1 0 0 0 9 0 0 0
+val9 = eight 1 0 0 0 9 0 0 0
 
 -- Add (Val 5) (Catch (Add (Val 7) Throw) (Val 6))
 abbrev treeA : List ℕ
 treeA =
-    record8 1 0 0 0 5 0 0 0
-    ++ record8 1 0 0 0 7 0 0 0
-    ++ record8 2 0 0 0 0 0 0 0
-    ++ record8 3 0 1 0 2 0 0 0
-    ++ record8 1 0 0 0 6 0 0 0
-    ++ record8 5 0 3 0 4 0 0 0
-    ++ record8 3 0 0 0 5 0 0 0
+    eight 1 0 0 0 5 0 0 0
+    ++ eight 1 0 0 0 7 0 0 0
+    ++ eight 2 0 0 0 0 0 0 0
+    ++ eight 3 0 1 0 2 0 0 0
+    ++ eight 1 0 0 0 6 0 0 0
+    ++ eight 5 0 3 0 4 0 0 0
+    ++ eight 3 0 0 0 5 0 0 0
 
 abbrev blockVal4 : List ℕ
-blockVal4 = record8 1 0 0 0 4 0 0 0 ++ record8 6 0 0 0 0 0 0 0
+blockVal4 = eight 1 0 0 0 4 0 0 0 ++ eight 6 0 0 0 0 0 0 0
 
 abbrev unblockBlockVal4 : List ℕ
-unblockBlockVal4 = blockVal4 ++ record8 7 0 1 0 0 0 0 0
+unblockBlockVal4 = blockVal4 ++ eight 7 0 1 0 0 0 0 0
 
 -- Add (Val 2147483647) (Val 1)
 abbrev addOverTheTop : List ℕ
-addOverTheTop = record8 1 0 0 0 255 255 255 127 ++ record8 1 0 0 0 1 0 0 0 ++ record8 3 0 0 0 1 0 0 0
+addOverTheTop = eight 1 0 0 0 255 255 255 127 ++ eight 1 0 0 0 1 0 0 0 ++ eight 3 0 0 0 1 0 0 0
 
 abbrev catchVal1Val2 : List ℕ
-catchVal1Val2 = record8 1 0 0 0 1 0 0 0 ++ record8 1 0 0 0 2 0 0 0 ++ record8 5 0 0 0 1 0 0 0
+catchVal1Val2 = eight 1 0 0 0 1 0 0 0 ++ eight 1 0 0 0 2 0 0 0 ++ eight 5 0 0 0 1 0 0 0
 
 -- Val and Add 0 0
 abbrev usedTwice : List ℕ
-usedTwice = record8 1 0 0 0 1 0 0 0 ++ record8 3 0 0 0 0 0 0 0
+usedTwice = eight 1 0 0 0 1 0 0 0 ++ eight 3 0 0 0 0 0 0 0
 
 -- ---- the list
 

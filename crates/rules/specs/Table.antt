@@ -1,11 +1,12 @@
 -- The recipe table and its tests 1 to 5 (document 01, "The recipe table" and "Refusal numbers").
 --
---   kinds          document 01's table of kinds: the node made, where its operands stand, which bytes are zero
---   nodeAt         the node that a record says
---   nodeTest       tests 2, 3 and 4 of a node
---   uses           how often a node is an operand
---   useTest        test 5 of a node
---   tableTests     the tests 1 to 5 in their order
+--   kinds        document 01's table of kinds: the node that a record says, and which of its bytes are zero
+--   nodeAt       the node of a number
+--   operandsOf   the nodes that a node names
+--   nodeTest     tests 2, 3 and 4 of a node
+--   uses         how often a node is an operand
+--   useTest      test 5 of a node
+--   tableTests   the tests 1 to 5 in their order
 --
 -- Assumes nothing.
 use Prim.Native.Nat.{ℕ, zero, suc, _+_, _-_, _*_}
@@ -30,24 +31,22 @@ use Rattle.rules.specs.declared.Refusal.{Refusal}
 pub record KindRow : Type 0 where
   -- from the number and the two operands
   pub node : ℤ → ℕ → ℕ → Node
-  -- the first byte of each operand
-  pub operands : List ℕ
   -- "byte 1 is zero", and "fields a kind doesn't use are zero"
   pub zeros : List ℕ
 
-abbrev kind : (ℤ → ℕ → ℕ → Node) → List ℕ → List ℕ → KindRow
-kind node operands zeros = record { node = node; operands = operands; zeros = zeros }
+abbrev kind : (ℤ → ℕ → ℕ → Node) → List ℕ → KindRow
+kind node zeros = record { node = node; zeros = zeros }
 
 -- kinds 1 to 7
 unfoldable pub kinds : List KindRow
 kinds =
-    kind (λ n left right. Val n) [] (1 ∷ 2 ∷ 3 ∷ [])
-    ∷ kind (λ n left right. Throw) [] (1 ∷ 2 ∷ 3 ∷ 4 ∷ 5 ∷ 6 ∷ 7 ∷ [])
-    ∷ kind (λ n left right. Add left right) (2 ∷ 4 ∷ []) (1 ∷ 6 ∷ 7 ∷ [])
-    ∷ kind (λ n left right. Seqn left right) (2 ∷ 4 ∷ []) (1 ∷ 6 ∷ 7 ∷ [])
-    ∷ kind (λ n left right. Catch left right) (2 ∷ 4 ∷ []) (1 ∷ 6 ∷ 7 ∷ [])
-    ∷ kind (λ n left right. Block left) (2 ∷ []) (1 ∷ 4 ∷ 5 ∷ 6 ∷ 7 ∷ [])
-    ∷ kind (λ n left right. Unblock left) (2 ∷ []) (1 ∷ 4 ∷ 5 ∷ 6 ∷ 7 ∷ [])
+    kind (λ n left right. Val n) (1 ∷ 2 ∷ 3 ∷ [])
+    ∷ kind (λ n left right. Throw) (1 ∷ 2 ∷ 3 ∷ 4 ∷ 5 ∷ 6 ∷ 7 ∷ [])
+    ∷ kind (λ n left right. Add left right) (1 ∷ 6 ∷ 7 ∷ [])
+    ∷ kind (λ n left right. Seqn left right) (1 ∷ 6 ∷ 7 ∷ [])
+    ∷ kind (λ n left right. Catch left right) (1 ∷ 6 ∷ 7 ∷ [])
+    ∷ kind (λ n left right. Block left) (1 ∷ 4 ∷ 5 ∷ 6 ∷ 7 ∷ [])
+    ∷ kind (λ n left right. Unblock left) (1 ∷ 4 ∷ 5 ∷ 6 ∷ 7 ∷ [])
     ∷ []
 
 unfoldable pub kindNumbered : ℕ → Option KindRow
@@ -59,31 +58,13 @@ kindAt table j = kindNumbered (byteAt table (recordBytes * j))
 
 -- ---- nodes
 
+-- "bytes 2 and 3 are the left operand"; bytes 4 to 7 are the number, or 4 and 5 the right operand
+unfoldable pub nodeOf : KindRow → List ℕ → ℕ → Node
+nodeOf k table base = k .node (signed (wordAt table (base + 4))) (halfAt table (base + 2)) (halfAt table (base + 4))
+
 -- A record with no kind says no node: it is refused, and what stands for it here is looked at by nobody.
 unfoldable pub nodeAt : List ℕ → ℕ → Node
-nodeAt table j =
-    let base : ℕ = recordBytes * j in
-    elim (kindAt table j) [
-      | none ↦ Throw
-      | some k ↦ k .node (signed (wordAt table (base + 4))) (halfAt table (base + 2)) (halfAt table (base + 4))
-    ]
-
--- "an operand is a node number below the node that names it"
-unfoldable pub operandsBelow : List ℕ → ℕ → List ℕ → Bool
-operandsBelow table j [] = true
-operandsBelow table j (offset ∷ offsets) = ltb (halfAt table (recordBytes * j + offset)) j && operandsBelow table j offsets
-
-unfoldable pub nodeTest : List ℕ → ℕ → Option Refusal
-nodeTest table j =
-    elim (kindAt table j) [
-      | none ↦ some (record { reason = Reason.Kind; place = j })
-      | some k ↦ firstRefusal
-          (unless (allZero table (recordBytes * j) (k .zeros)) UnusedByte j
-          ∷ unless (operandsBelow table j (k .operands)) Operand j
-          ∷ [])
-    ]
-
--- ---- uses
+nodeAt table j = elim (kindAt table j) [ none ↦ Throw | some k ↦ nodeOf k table (recordBytes * j) ]
 
 unfoldable pub operandsOf : Node → List ℕ
 operandsOf (Val n) = []
@@ -93,6 +74,24 @@ operandsOf (Seqn left right) = left ∷ right ∷ []
 operandsOf (Catch left right) = left ∷ right ∷ []
 operandsOf (Block left) = left ∷ []
 operandsOf (Unblock left) = left ∷ []
+
+-- "an operand is a node number below the node that names it"
+unfoldable pub allBelow : ℕ → List ℕ → Bool
+allBelow j [] = true
+allBelow j (k ∷ ks) = ltb k j && allBelow j ks
+
+unfoldable pub nodeTest : List ℕ → ℕ → Option Refusal
+nodeTest table j =
+    let base : ℕ = recordBytes * j in
+    elim (kindAt table j) [
+      | none ↦ some (record { reason = Reason.Kind; place = j })
+      | some k ↦ firstRefusal
+          (unless (allZero table base (k .zeros)) UnusedByte j
+          ∷ unless (allBelow j (operandsOf (nodeOf k table base))) Operand j
+          ∷ [])
+    ]
+
+-- ---- uses
 
 unfoldable pub times : ℕ → List ℕ → ℕ
 times j [] = 0
