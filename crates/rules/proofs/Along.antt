@@ -12,7 +12,7 @@ use native.Mathlib.Omega.{arith}
 use lib.IntN.{ℤ}
 use lib.ListN.{length, getElem?}
 use mathlib.Core.List.{List, [], _∷_}
-use mathlib.Core.Option.{Option, none}
+use mathlib.Core.Option.{none}
 use mathlib.Core.Path.{_≡_, refl, ap, _∙_}
 use Rattle.rules.specs.Demand.{Meets, here, later}
 use Rattle.rules.specs.Limits.{stepLimit}

@@ -4,18 +4,18 @@
 --   demand   the claim
 --
 -- Assumes nothing.
-use Prim.Native.Nat.{ℕ, zero, suc, _+_, _*_, _-_, _≤_, _<_}
+use Prim.Native.Nat.{ℕ, suc, _+_, _*_, _≤_}
 use native.Mathlib.Nat.{add-zero}
 use native.Mathlib.Omega.{arith}
 use lib.ListN.{length, getD, List·getD-eq-default}
 use mathlib.Core.Bool.{Bool, false}
-use mathlib.Core.List.{List, [], _∷_, _++_, append-nil}
+use mathlib.Core.List.{List, [], _∷_, append-nil}
 use mathlib.Core.Path.{_≡_, refl, sym, ap, _∙_}
 use Rattle.rules.specs.Code.{codeLength, compile}
-use Rattle.rules.specs.Demand.{ofExpression, mostSteps, mostReached, Ends, AsksNothingFrom, Meets, noRecall, Demand}
+use Rattle.rules.specs.Demand.{ofExpression, mostSteps, mostReached, Ends, AsksNothingFrom, Demand}
 use Rattle.rules.specs.Evaluation.{Gives, quiet}
 use Rattle.rules.specs.Expression.{Expression, nodes}
-use Rattle.rules.specs.Limits.{nodeLimit, stepLimit}
+use Rattle.rules.specs.Limits.{nodeLimit}
 use Rattle.rules.specs.Machine.{State, fresh, Placing}
 use Rattle.rules.specs.Run.{answer}
 use Rattle.rules.specs.declared.Status.{Status}

@@ -1,20 +1,19 @@
 -- Where an expression's instructions stand in a code.
 --
+--   nodes-pos          an expression has a node
+--   length-compile     the length of its code is document 01's column, summed over the nodes
+--   codeLength-nodes   "at most 2n - 1"
 --   Holds code a e b   the code holds e's instructions from address a up to b
 --   compile-holds      compiled code does, whatever stands before and after it
---   length-compile     its length is document 01's column, summed over the nodes
---   codeLength-nodes   "at most 2n - 1"
 --
 -- Assumes nothing.
-use Prim.Native.Nat.{ℕ, zero, suc, _+_, _*_, _≤_}
-use native.Mathlib.Nat.{add-zero, zero-add, add-assoc}
-use native.Mathlib.Numerals.{add-one}
+use Prim.Native.Nat.{ℕ, _+_, _*_, _≤_}
 use native.Mathlib.Omega.{arith}
 use lib.IntN.{ℤ}
 use lib.ListN.{length, getElem?, length-append}
-use mathlib.Core.List.{List, [], _∷_, _++_, append-assoc, append-nil}
+use mathlib.Core.List.{List, [], _∷_, _++_, append-assoc}
 use mathlib.Core.Option.{some}
-use mathlib.Core.Path.{_≡_, refl, sym, ap, _∙_}
+use mathlib.Core.Path.{_≡_, refl, _∙_}
 use Rattle.rules.specs.Code.{codeLength, compile}
 use Rattle.rules.specs.Expression.{Expression, Val, Throw, Add, Seqn, Catch, Block, Unblock, nodes}
 use Rattle.rules.specs.declared.Status.{Status}
@@ -23,17 +22,17 @@ use Rattle.rules.specs.declared.Instruction.{Instruction}
 use Rattle.rules.specs.declared.Instruction.the-variants.{Push, Pop, Mark, Unmark, Set, Reset}
 use Rattle.rules.proofs.Order.{Has}
 
-pub data Holds (code : List Instruction) : ℕ → Expression → ℕ → Type 0 where
-  val : {a : ℕ} {n : ℤ} → Has code a (Push n) → Holds code a (Val n) (a + 1)
-  throw : {a : ℕ} → Has code a Instruction.Throw → Holds code a Throw (a + 1)
-  add : {a b c : ℕ} {x y : Expression} → Holds code a x b → Holds code b y c → Has code c Instruction.Add → Holds code a (Add x y) (c + 1)
-  seqn : {a b c : ℕ} {x y : Expression} → Holds code a x b → Has code b Pop → Holds code (b + 1) y c → Holds code a (Seqn x y) c
-  catch : {a b c : ℕ} {x y : Expression} → Has code a (Mark (b + 1)) → Holds code (a + 1) x b → Has code b (Unmark c) → Holds code (b + 1) y c
-      → Holds code a (Catch x y) c
-  block : {a b : ℕ} {x : Expression} → Has code a (Set Blocked) → Holds code (a + 1) x b → Has code b Reset → Holds code a (Block x) (b + 1)
-  unblock : {a b : ℕ} {x : Expression} → Has code a (Set Unblocked) → Holds code (a + 1) x b → Has code b Reset → Holds code a (Unblock x) (b + 1)
+-- ---- sizes
 
--- ---- lengths
+pub nodes-pos : (e : Expression) → 1 ≤ nodes e
+unfolding nodes
+nodes-pos (Val n) = omega arith
+nodes-pos Throw = omega arith
+nodes-pos (Add x y) = omega arith
+nodes-pos (Seqn x y) = omega arith
+nodes-pos (Catch x y) = omega arith
+nodes-pos (Block x) = omega arith
+nodes-pos (Unblock x) = omega arith
 
 pub length-compile : (a : ℕ) (e : Expression) → length (compile a e) ≡ codeLength e
 unfolding codeLength compile
@@ -57,6 +56,18 @@ codeLength-nodes (Seqn x y) = omega (arith, codeLength-nodes x, codeLength-nodes
 codeLength-nodes (Catch x y) = omega (arith, codeLength-nodes x, codeLength-nodes y)
 codeLength-nodes (Block x) = omega (arith, codeLength-nodes x)
 codeLength-nodes (Unblock x) = omega (arith, codeLength-nodes x)
+
+-- ---- where instructions stand
+
+pub data Holds (code : List Instruction) : ℕ → Expression → ℕ → Type 0 where
+  val : {a : ℕ} {n : ℤ} → Has code a (Push n) → Holds code a (Val n) (a + 1)
+  throw : {a : ℕ} → Has code a Instruction.Throw → Holds code a Throw (a + 1)
+  add : {a b c : ℕ} {x y : Expression} → Holds code a x b → Holds code b y c → Has code c Instruction.Add → Holds code a (Add x y) (c + 1)
+  seqn : {a b c : ℕ} {x y : Expression} → Holds code a x b → Has code b Pop → Holds code (b + 1) y c → Holds code a (Seqn x y) c
+  catch : {a b c : ℕ} {x y : Expression} → Has code a (Mark (b + 1)) → Holds code (a + 1) x b → Has code b (Unmark c) → Holds code (b + 1) y c
+      → Holds code a (Catch x y) c
+  block : {a b : ℕ} {x : Expression} → Has code a (Set Blocked) → Holds code (a + 1) x b → Has code b Reset → Holds code a (Block x) (b + 1)
+  unblock : {a b : ℕ} {x : Expression} → Has code a (Set Unblocked) → Holds code (a + 1) x b → Has code b Reset → Holds code a (Unblock x) (b + 1)
 
 -- ---- compiled code
 

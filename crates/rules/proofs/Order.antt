@@ -10,6 +10,7 @@
 --   run-limit-next, run-limit-stuck   no steps left, and one to be taken or refused: 15
 --   run-over             no step to be taken: the end, or 14 at the length, with steps left or none
 --
+-- Here and above: a an address, x an instruction, i a status, s the items, t the steps, r the instructions reached.
 -- Assumes nothing.
 use Prim.Native.Nat.{ℕ, zero, suc}
 use lib.ListN.{getElem?}

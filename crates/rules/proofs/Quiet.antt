@@ -8,7 +8,7 @@
 use Prim.Native.Nat.{ℕ, _+_}
 use mathlib.Core.Bool.{Bool, false}
 use mathlib.Core.List.{List, [], _∷_}
-use mathlib.Core.Path.{_≡_, refl}
+use mathlib.Core.Path.{refl}
 use Rattle.rules.specs.Demand.{noRecall}
 use Rattle.rules.specs.Evaluation.{Gives, VAL, THROW, ADD1, ADD2, ADD3, SEQN1, SEQN2, CATCH1, CATCH2, BLOCK, UNBLOCK, quietAdd, quietSeqn, quietCatch, quiet}
 use Rattle.rules.specs.Expression.{Expression, Val, Throw, Add, Seqn, Catch, Block, Unblock}

@@ -11,10 +11,10 @@ use native.Mathlib.Omega.{arith}
 use lib.IntN.{ℤ}
 use lib.ListN.{length}
 use mathlib.Core.Bool.{Bool, true, false}
-use mathlib.Core.List.{List, [], _∷_}
+use mathlib.Core.List.{List, _∷_}
 use mathlib.Core.Path.{_≡_, refl}
 use Rattle.rules.specs.Evaluation.{Gives, VAL, THROW, ADD1, ADD2, ADD3, SEQN1, SEQN2, CATCH1, CATCH2, BLOCK, UNBLOCK, INT}
-use Rattle.rules.specs.Expression.{Expression, Val, Throw, Add, Seqn, Catch, Block, Unblock, nodes}
+use Rattle.rules.specs.Expression.{Expression, Val, Throw, Add, Seqn, Catch, nodes}
 use Rattle.rules.specs.Limits.{itemLimit}
 use Rattle.rules.specs.Machine.{State, Placing, cuts, execute, withNumber, withHandler, withSaved}
 use Rattle.rules.specs.Number.{sum}
@@ -24,9 +24,9 @@ use Rattle.rules.specs.declared.Instruction.{Instruction}
 use Rattle.rules.specs.declared.Item.{Item}
 use Rattle.rules.specs.declared.Item.the-variants.{Number, Handler, Saved}
 use Rattle.rules.specs.declared.End.{End}
-use Rattle.rules.proofs.Holding.{Holds, val, throw, add, seqn, catch, block, unblock}
+use Rattle.rules.proofs.Holding.{nodes-pos, Holds, val, throw, add, seqn, catch, block, unblock}
 use Rattle.rules.proofs.Order.{running, unwinding, Has}
-use Rattle.rules.proofs.Path.{Goes, Path, done, _▸_, _▹_, go, cut, pushes, drop, restore, handle}
+use Rattle.rules.proofs.Path.{Path, done, _▸_, _▹_, go, cut, pushes, drop, restore, handle}
 
 data Struck (i : Status) (asked : Bool) : Type 0 where
   calm : cuts i asked ≡ false → Struck i asked
@@ -37,16 +37,6 @@ unfolding cuts
 strikes Blocked asked = calm refl
 strikes Unblocked true = struck (λ e. INT) refl
 strikes Unblocked false = calm refl
-
-pub nodes-pos : (e : Expression) → 1 ≤ nodes e
-unfolding nodes
-nodes-pos (Val n) = omega arith
-nodes-pos Throw = omega arith
-nodes-pos (Add x y) = omega arith
-nodes-pos (Seqn x y) = omega arith
-nodes-pos (Catch x y) = omega arith
-nodes-pos (Block x) = omega arith
-nodes-pos (Unblock x) = omega arith
 
 module _ (code : List Instruction) (asks : Placing) (room : ℕ) where
   pub data Lands (e : Expression) (i : Status) (s : List Item) (b t r : ℕ) (from : State) : Type 0 where

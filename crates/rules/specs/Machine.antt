@@ -13,7 +13,7 @@ use Prim.Native.Nat.{ℕ, _+_}
 use lib.IntN.{ℤ}
 use lib.Dec.{ltb}
 use lib.ListN.{length, getElem?}
-use mathlib.Core.Bool.{Bool, true, false, cond}
+use mathlib.Core.Bool.{Bool, false, cond}
 use mathlib.Core.List.{List, [], _∷_}
 use mathlib.Core.Option.{Option, none, some}
 use Rattle.rules.specs.Limits.{itemLimit}
@@ -27,7 +27,6 @@ use Rattle.rules.specs.declared.Item.the-variants.{Number, Handler, Save
 use Rattle.rules.specs.declared.End.{End}
 use Rattle.rules.specs.declared.Outcome.{Outcome}
 use Rattle.rules.specs.declared.Outcome.the-variants.{Ended, Refused}
-use Rattle.rules.specs.declared.Reason.{Reason}
 use Rattle.rules.specs.declared.Reason.the-variants.{StackFull, NoRule}
 use Rattle.rules.specs.declared.Refusal.{Refusal}
 

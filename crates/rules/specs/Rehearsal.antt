@@ -9,7 +9,6 @@ use mathlib.Core.List.{List}
 use Rattle.rules.specs.Compiling.{compileAnswer, compileLeaves}
 use Rattle.rules.specs.Limits.{recordBytes, codeLimit, stackBytes}
 use Rattle.rules.specs.Running.{runAnswer, refusedAnswer}
-use Rattle.rules.specs.declared.Compiled.{Compiled}
 use Rattle.rules.specs.declared.Compiled.the-variants.{Length, Refused}
 use Rattle.rules.specs.declared.Answer.{Answer}
 

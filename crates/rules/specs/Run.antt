@@ -7,14 +7,13 @@
 use Prim.Native.Nat.{ℕ, zero, suc}
 use mathlib.Core.List.{List}
 use Rattle.rules.specs.Limits.{stepLimit}
-use Rattle.rules.specs.Machine.{State, fresh, Placing, Step, Next, Over, Stuck, step}
+use Rattle.rules.specs.Machine.{State, fresh, Placing, Next, Over, Stuck, step}
 use Rattle.rules.specs.declared.Status.{Status}
 use Rattle.rules.specs.declared.Instruction.{Instruction}
 use Rattle.rules.specs.declared.Outcome.{Outcome}
 use Rattle.rules.specs.declared.Outcome.the-variants.{Refused}
 use Rattle.rules.specs.declared.Answer.{Answer}
 use Rattle.rules.specs.declared.Reason.{Reason}
-use Rattle.rules.specs.declared.Refusal.{Refusal}
 
 -- with the totals of the last state
 abbrev pub answer : State → Outcome → Answer

@@ -10,7 +10,7 @@
 use Prim.Native.Nat.{ℕ}
 use lib.Dec.{ltb, leb}
 use lib.ListN.{length, drop, replicate}
-use mathlib.Core.List.{List, [], _∷_, _++_}
+use mathlib.Core.List.{List, _∷_, _++_}
 use mathlib.Core.Option.{Option, none, some}
 use Rattle.rules.specs.Answers.{statusNumbered}
 use Rattle.rules.specs.CodeBytes.{instructions, codeTests}
