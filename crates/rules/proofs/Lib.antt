@@ -8,3 +8,4 @@ pub mod Path
 pub mod Quiet
 pub mod Rehearsed
 pub mod Soundness
+pub mod Tried

@@ -25,7 +25,7 @@ pub record Rehearsed : Type 0 where
 -- ---- words for the list
 
 -- the bytes of a record
-abbrev eight : ℕ → ℕ → ℕ → ℕ → ℕ → ℕ → ℕ → ℕ → List ℕ
+abbrev pub eight : ℕ → ℕ → ℕ → ℕ → ℕ → ℕ → ℕ → ℕ → List ℕ
 eight a b c d e f g h = a ∷ b ∷ c ∷ d ∷ e ∷ f ∷ g ∷ h ∷ []
 
 abbrev blocked : ℕ
@@ -56,7 +56,7 @@ abbrev val9 : List ℕ
 val9 = eight 1 0 0 0 9 0 0 0
 
 -- Add (Val 5) (Catch (Add (Val 7) Throw) (Val 6))
-abbrev treeA : List ℕ
+abbrev pub treeA : List ℕ
 treeA =
     eight 1 0 0 0 5 0 0 0
     ++ eight 1 0 0 0 7 0 0 0
