@@ -112,10 +112,10 @@ arrival (End.Number n) b i s = running b i (Number n ∷ s)
 arrival End.Throw b i s = unwinding i s
 
 module _ {code : List Instruction} {asks : Placing} {room : ℕ} {from : State} (small : room ≤ itemLimit) where
-  struck : {a b : ℕ} {e : Expression} {s : List Item} (row : List Bool) → Holds code a e b → length s ≤ room
+  recalled : {a b : ℕ} {e : Expression} {s : List Item} (row : List Bool) → Holds code a e b → length s ≤ room
       → Comes code asks room from (running a Unblocked s) (true ∷ row) → Comes code asks room from (unwinding Unblocked s) row
   unfolding cuts
-  struck row h f (by path (bit e reads)) = by (path ▹ cut (first h .1) e f ▸ done) reads
+  recalled row h f (by path (bit e reads)) = by (path ▹ cut (first h .1) e f ▸ done) reads
 
   -- RESET after a number, a saved status restored after a throw
   leave : (v : End) (i j : Status) (s : List Item) (row : List Bool) {b : ℕ} → Has code b Instruction.Reset → suc (length s) ≤ room
@@ -177,4 +177,4 @@ module _ {code : List Instruction} {asks : Placing} {room : ℕ} {from : State} 
   arrives (UNBLOCK {i = i} {v = v} dx) (unblock set hx reset) s f row p =
       within v i Unblocked s (bits dx (resetBits v row)) row set reset (omega arith)
       (λ q. arrives dx hx (Saved i ∷ s) (omega arith) (resetBits v row) q) p
-  arrives INT h s f row p = struck row h (omega arith) p
+  arrives INT h s f row p = recalled row h (omega arith) p

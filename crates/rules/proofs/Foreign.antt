@@ -6,8 +6,7 @@ use lib.ListN.{replicate}
 use mathlib.Core.List.{List, [], _∷_, map}
 use mathlib.Core.Path.{_≡_, refl}
 use Rattle.rules.specs.Demand.{noRecall}
-use Rattle.rules.specs.Machine.{withNumber, withHandler, withSaved, withNothing, push, execute, cuts, atInstruction, atLength, unwind, stepAt, stepIn, step}
-use Rattle.rules.specs.Run.{run, runs}
+use Rattle.rules.specs.Run.{runs}
 use Rattle.rules.specs.declared.Status.the-variants.{Unblocked}
 use Rattle.rules.specs.declared.Instruction.{Instruction}
 use Rattle.rules.specs.declared.Instruction.the-variants.{Push, Throw, Pop, Mark}
@@ -16,6 +15,7 @@ use Rattle.rules.specs.declared.Outcome.the-variants.{Ended, Refused}
 use Rattle.rules.specs.declared.Reason.{Reason}
 use Rattle.rules.specs.declared.Reason.the-variants.{StackFull, NoRule, Steps}
 use Rattle.rules.specs.declared.Answer.{Answer}
+use Rattle.rules.proofs.Computing.{computing}
 
 record Foreign : Type 0 where
   code : List Instruction
@@ -42,5 +42,5 @@ foreignCodes =
     ∷ []
 
 as-foreign : map (λ f. runs (f .code) noRecall Unblocked) foreignCodes ≡ map (λ f. f .answer) foreignCodes
-unfolding marks foreignCodes withNumber withHandler withSaved withNothing push execute cuts atInstruction atLength unwind stepAt stepIn step run runs
+unfolding computing marks foreignCodes
 as-foreign = refl

@@ -1,5 +1,6 @@
 pub mod Along
 pub mod Completeness
+pub mod Computing
 pub mod Demand
 pub mod Foreign
 pub mod Holding
@@ -9,3 +10,4 @@ pub mod Quiet
 pub mod Rehearsed
 pub mod Soundness
 pub mod Tried
+pub mod Witnesses

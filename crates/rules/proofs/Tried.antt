@@ -2,30 +2,35 @@
 -- something else is wrong too, so that the order of tests shows; and what is left in the buffers. By computation; what must come
 -- was worked out from document 01 by hand.
 --
+--   sizes-tried                                  the sizes at which 1 and 9 begin
 --   tables-tried, code-left, code-untouched      compiling
 --   codes-tried, stack-zeroed, stack-untouched   running
 --
 -- Assumes nothing.
 use Prim.Native.Nat.{ℕ}
 use lib.ListN.{replicate}
+use mathlib.Core.Bool.{Bool, true, false}
 use mathlib.Core.List.{List, [], _∷_, _++_, map}
 use mathlib.Core.Path.{_≡_, refl}
-use Rattle.rules.specs.Answers.{statusNumber, statusNumbered, refusalOf, placeOf, lengthOf, refusedOf, placedOf}
-use Rattle.rules.specs.Bytes.{halfAt, wordAt, wordBytes, allZero, wholeRecords}
-use Rattle.rules.specs.Code.{codeLength, compile}
-use Rattle.rules.specs.CodeBytes.{instructionRecord, instructionBytes, bytesOf, opcodes, opcodeNumbered, opcodeAt, instructionAt, instructionsBelow, instructions, operandFits, targetFits, instructionTest, codeTests}
-use Rattle.rules.specs.Compiling.{codeOf, compileTests, compileAnswer, compileLeaves}
-use Rattle.rules.specs.Machine.{withNumber, withHandler, withSaved, withNothing, push, execute, cuts, atInstruction, atLength, unwind, stepAt, stepIn, step}
-use Rattle.rules.specs.Number.{residue, signed, sum}
-use Rattle.rules.specs.Recipe.{ofNode, expressionWithin, expressionAt, recipe}
-use Rattle.rules.specs.Refusals.{refusalNumber, unless, firstRefusal, lowestRefusal}
+use Rattle.rules.specs.Answers.{outcomeRefusal, outcomePlace, compiledLength, compiledRefusal, compiledPlace}
+use Rattle.rules.specs.Bytes.{wholeRecords}
+use Rattle.rules.specs.Compiling.{compileAnswer, compileLeaves}
+use Rattle.rules.specs.Limits.{tableLimit, codeLimit}
 use Rattle.rules.specs.Rehearsed.{eight, treeA}
-use Rattle.rules.specs.Run.{run, runs}
-use Rattle.rules.specs.Running.{runTests, runAnswer, runLeaves}
-use Rattle.rules.specs.Schedule.{asks}
-use Rattle.rules.specs.Table.{kinds, kindNumbered, kindAt, nodeOf, nodeAt, operandsOf, allBelow, nodeTest, times, uses, useTest, tableTests}
+use Rattle.rules.specs.Running.{runAnswer, runLeaves}
 use Rattle.rules.specs.declared.Compiled.{Compiled}
 use Rattle.rules.specs.declared.Answer.{Answer}
+use Rattle.rules.proofs.Computing.{computing}
+
+-- ---- sizes: 512 nodes and 1,023 instructions are taken, one more is not, nor one byte less
+
+takes : ℕ → ℕ → Bool
+takes most bytes = wholeRecords most (replicate bytes 0)
+
+sizes-tried : map (takes tableLimit) (0 ∷ 8 ∷ 4095 ∷ 4096 ∷ 4104 ∷ []) ++ map (takes codeLimit) (0 ∷ 8 ∷ 8183 ∷ 8184 ∷ 8192 ∷ [])
+    ≡ false ∷ true ∷ false ∷ true ∷ false ∷ false ∷ true ∷ false ∷ true ∷ false ∷ []
+unfolding computing takes
+sizes-tried = refl
 
 -- ---- compiling: a table, the bytes of the code buffer; the length, the refusal and the place
 
@@ -73,10 +78,10 @@ tables =
     ∷ []
 
 compileFields : Compiled → List ℕ
-compileFields a = lengthOf a ∷ refusedOf a ∷ placedOf a ∷ []
+compileFields a = compiledLength a ∷ compiledRefusal a ∷ compiledPlace a ∷ []
 
 tables-tried : map (λ c. compileFields (compileAnswer (c .table) (replicate (c .room) 170))) tables ≡ map (λ c. c .answer) tables
-unfolding halfAt wordAt wordBytes allZero wholeRecords residue signed statusNumber unless firstRefusal lowestRefusal codeLength compile instructionRecord instructionBytes bytesOf codeOf compileTests compileAnswer compileLeaves ofNode expressionWithin expressionAt recipe kinds kindNumbered kindAt nodeOf nodeAt operandsOf allBelow nodeTest times uses useTest tableTests compileFields tables lengthOf refusedOf placedOf refusalNumber
+unfolding computing compileFields tables
 tables-tried = refl
 
 -- PUSH 5, MARK 6, PUSH 7, THROW, ADD, UNMARK 7, PUSH 6, ADD, and two bytes that stay as they were
@@ -90,11 +95,11 @@ code-left : compileLeaves treeA (replicate 66 170)
     ++ eight 1 0 0 0 6 0 0 0
     ++ eight 3 0 0 0 0 0 0 0
     ++ (170 ∷ 170 ∷ [])
-unfolding halfAt wordAt wordBytes allZero wholeRecords residue signed statusNumber unless firstRefusal lowestRefusal codeLength compile instructionRecord instructionBytes bytesOf codeOf compileTests compileAnswer compileLeaves ofNode expressionWithin expressionAt recipe kinds kindNumbered kindAt nodeOf nodeAt operandsOf allBelow nodeTest times uses useTest tableTests
+unfolding computing
 code-left = refl
 
 code-untouched : compileLeaves treeA (replicate 63 170) ≡ replicate 63 170
-unfolding halfAt wordAt wordBytes allZero wholeRecords residue signed statusNumber unless firstRefusal lowestRefusal codeLength compile instructionRecord instructionBytes bytesOf codeOf compileTests compileAnswer compileLeaves ofNode expressionWithin expressionAt recipe kinds kindNumbered kindAt nodeOf nodeAt operandsOf allBelow nodeTest times uses useTest tableTests
+unfolding computing
 code-untouched = refl
 
 -- ---- running: a status, a code, the bytes of the stack buffer; the refusal, the place and both totals
@@ -109,8 +114,8 @@ abbrev code : ℕ → List ℕ → ℕ → ℕ → ℕ → ℕ → ℕ → Runni
 code status bytes room refusal place steps reached =
     record { status = status; code = bytes; room = room; answer = refusal ∷ place ∷ steps ∷ reached ∷ [] }
 
-abbrev push1 : List ℕ
-push1 = eight 1 0 0 0 1 0 0 0
+abbrev pushOne : List ℕ
+pushOne = eight 1 0 0 0 1 0 0 0
 
 codes : List Running
 codes =
@@ -118,36 +123,36 @@ codes =
     code 2 [] 4095 7 0 0 0
     ∷ code 1 [] 4095 8 0 0 0
     ∷ code 1 [] 4096 9 0 0 0
-    ∷ code 1 (push1 ++ (0 ∷ [])) 4096 9 0 0 0
+    ∷ code 1 (pushOne ++ (0 ∷ [])) 4096 9 0 0 0
     -- 10, before 11
     ∷ code 1 (eight 0 0 0 0 0 0 0 0) 4096 10 0 0 0
-    ∷ code 1 (push1 ++ eight 9 1 0 0 0 0 0 0) 4096 10 1 0 0
+    ∷ code 1 (pushOne ++ eight 9 1 0 0 0 0 0 0) 4096 10 1 0 0
     -- 11: bytes 1 to 3, an operand where none is, SET 2; before 12
     ∷ code 1 (eight 1 0 0 1 1 0 0 0) 4096 11 0 0 0
     ∷ code 1 (eight 2 0 0 0 0 0 0 1) 4096 11 0 0 0
     ∷ code 1 (eight 7 0 0 0 2 0 0 0) 4096 11 0 0 0
     ∷ code 1 (eight 5 0 1 0 0 0 0 0) 4096 11 0 0 0
     -- 12: its own address, above the length
-    ∷ code 1 (push1 ++ eight 5 0 0 0 1 0 0 0) 4096 12 1 0 0
+    ∷ code 1 (pushOne ++ eight 5 0 0 0 1 0 0 0) 4096 12 1 0 0
     ∷ code 1 (eight 6 0 0 0 2 0 0 0) 4096 12 0 0 0
     -- each instruction upward: 12 at address 0 before 10 at address 1
     ∷ code 1 (eight 5 0 0 0 0 0 0 0 ++ eight 0 0 0 0 0 0 0 0) 4096 12 0 0 0
     -- a target at the length is none of these: MARK 1 runs, and at the length there is no number
     ∷ code 1 (eight 5 0 0 0 1 0 0 0) 4096 14 1 1 1
-    ∷ code 0 push1 4096 0 0 1 1
+    ∷ code 0 pushOne 4096 0 0 1 1
     ∷ []
 
 runFields : Answer → List ℕ
-runFields a = refusalOf (a .outcome) ∷ placeOf (a .outcome) ∷ a .steps ∷ a .reached ∷ []
+runFields a = outcomeRefusal (a .outcome) ∷ outcomePlace (a .outcome) ∷ a .steps ∷ a .reached ∷ []
 
 codes-tried : map (λ c. runFields (runAnswer (c .status) (c .code) [] (replicate (c .room) 170))) codes ≡ map (λ c. c .answer) codes
-unfolding halfAt wordAt wordBytes allZero wholeRecords residue signed statusNumber unless firstRefusal lowestRefusal statusNumbered opcodes opcodeNumbered opcodeAt instructionAt instructionsBelow instructions operandFits targetFits instructionTest codeTests withNumber withHandler withSaved withNothing push execute cuts atInstruction atLength unwind stepAt stepIn step sum run runs runTests runAnswer runLeaves asks runFields codes refusalOf placeOf refusalNumber
+unfolding computing runFields codes
 codes-tried = refl
 
-stack-zeroed : runLeaves 1 push1 (replicate 4096 170 ++ (171 ∷ [])) ≡ replicate 4096 0 ++ (171 ∷ [])
-unfolding halfAt wordAt wordBytes allZero wholeRecords residue signed statusNumber unless firstRefusal lowestRefusal statusNumbered opcodes opcodeNumbered opcodeAt instructionAt instructionsBelow instructions operandFits targetFits instructionTest codeTests withNumber withHandler withSaved withNothing push execute cuts atInstruction atLength unwind stepAt stepIn step sum run runs runTests runAnswer runLeaves asks
+stack-zeroed : runLeaves 1 pushOne (replicate 4096 170 ++ (171 ∷ [])) ≡ replicate 4096 0 ++ (171 ∷ [])
+unfolding computing
 stack-zeroed = refl
 
-stack-untouched : runLeaves 1 (push1 ++ eight 9 0 0 0 0 0 0 0) (replicate 4096 170) ≡ replicate 4096 170
-unfolding halfAt wordAt wordBytes allZero wholeRecords residue signed statusNumber unless firstRefusal lowestRefusal statusNumbered opcodes opcodeNumbered opcodeAt instructionAt instructionsBelow instructions operandFits targetFits instructionTest codeTests withNumber withHandler withSaved withNothing push execute cuts atInstruction atLength unwind stepAt stepIn step sum run runs runTests runAnswer runLeaves asks
+stack-untouched : runLeaves 1 (pushOne ++ eight 9 0 0 0 0 0 0 0) (replicate 4096 170) ≡ replicate 4096 170
+unfolding computing
 stack-untouched = refl

@@ -1,8 +1,10 @@
 -- The numbers and the fields of answers (document 01, "What a recipe may end in" and "One step of the machine").
 --
---   statusNumber, statusNumbered           "a status is 0, blocked, or 1, unblocked", and back
---   kindOf, numberOf, refusalOf, placeOf   the fields of what a run comes to: "fields that don't apply are 0"
---   lengthOf, refusedOf, placedOf          the fields of what compiling answers
+--   statusNumber, statusNumbered   "a status is 0, blocked, or 1, unblocked", and back
+--   outcomeKind, outcomeNumber, outcomeRefusal, outcomePlace
+--                                  the fields of what a run comes to: "fields that don't apply are 0"
+--   compiledLength, compiledRefusal, compiledPlace
+--                                  the fields of what compiling answers
 --
 -- Assumes nothing.
 use Prim.Native.Nat.{ℕ, zero, suc}
@@ -27,34 +29,34 @@ statusNumbered (suc n) = Unblocked
 
 -- ---- running: "the kind of end (0 number, 1 throw, 2 refused)"
 
-unfoldable pub kindOf : Outcome → ℕ
-kindOf (Ended (Number n)) = 0
-kindOf (Ended Throw) = 1
-kindOf (Outcome.Refused r) = 2
+unfoldable pub outcomeKind : Outcome → ℕ
+outcomeKind (Ended (Number n)) = 0
+outcomeKind (Ended Throw) = 1
+outcomeKind (Outcome.Refused r) = 2
 
-unfoldable pub numberOf : Outcome → ℤ
-numberOf (Ended (Number n)) = n
-numberOf (Ended Throw) = pos 0
-numberOf (Outcome.Refused r) = pos 0
+unfoldable pub outcomeNumber : Outcome → ℤ
+outcomeNumber (Ended (Number n)) = n
+outcomeNumber (Ended Throw) = pos 0
+outcomeNumber (Outcome.Refused r) = pos 0
 
-unfoldable pub refusalOf : Outcome → ℕ
-refusalOf (Ended v) = 0
-refusalOf (Outcome.Refused r) = refusalNumber (r .reason)
+unfoldable pub outcomeRefusal : Outcome → ℕ
+outcomeRefusal (Ended v) = 0
+outcomeRefusal (Outcome.Refused r) = refusalNumber (r .reason)
 
-unfoldable pub placeOf : Outcome → ℕ
-placeOf (Ended v) = 0
-placeOf (Outcome.Refused r) = r .place
+unfoldable pub outcomePlace : Outcome → ℕ
+outcomePlace (Ended v) = 0
+outcomePlace (Outcome.Refused r) = r .place
 
 -- ---- compiling
 
-unfoldable pub lengthOf : Compiled → ℕ
-lengthOf (Length n) = n
-lengthOf (Compiled.Refused r) = 0
+unfoldable pub compiledLength : Compiled → ℕ
+compiledLength (Length n) = n
+compiledLength (Compiled.Refused r) = 0
 
-unfoldable pub refusedOf : Compiled → ℕ
-refusedOf (Length n) = 0
-refusedOf (Compiled.Refused r) = refusalNumber (r .reason)
+unfoldable pub compiledRefusal : Compiled → ℕ
+compiledRefusal (Length n) = 0
+compiledRefusal (Compiled.Refused r) = refusalNumber (r .reason)
 
-unfoldable pub placedOf : Compiled → ℕ
-placedOf (Length n) = 0
-placedOf (Compiled.Refused r) = r .place
+unfoldable pub compiledPlace : Compiled → ℕ
+compiledPlace (Length n) = 0
+compiledPlace (Compiled.Refused r) = r .place

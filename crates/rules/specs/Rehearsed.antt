@@ -52,8 +52,9 @@ comes status table schedule answer = record { status = status; table = table; sc
 
 -- ---- the tables
 
-abbrev val9 : List ℕ
-val9 = eight 1 0 0 0 9 0 0 0
+-- Val 9
+abbrev justNine : List ℕ
+justNine = eight 1 0 0 0 9 0 0 0
 
 -- Add (Val 5) (Catch (Add (Val 7) Throw) (Val 6))
 abbrev pub treeA : List ℕ
@@ -66,18 +67,21 @@ treeA =
     ++ eight 5 0 3 0 4 0 0 0
     ++ eight 3 0 0 0 5 0 0 0
 
-abbrev blockVal4 : List ℕ
-blockVal4 = eight 1 0 0 0 4 0 0 0 ++ eight 6 0 0 0 0 0 0 0
+-- Block (Val 4)
+abbrev blockedFour : List ℕ
+blockedFour = eight 1 0 0 0 4 0 0 0 ++ eight 6 0 0 0 0 0 0 0
 
-abbrev unblockBlockVal4 : List ℕ
-unblockBlockVal4 = blockVal4 ++ eight 7 0 1 0 0 0 0 0
+-- Unblock (Block (Val 4))
+abbrev openedBlockedFour : List ℕ
+openedBlockedFour = blockedFour ++ eight 7 0 1 0 0 0 0 0
 
 -- Add (Val 2147483647) (Val 1)
 abbrev addOverTheTop : List ℕ
 addOverTheTop = eight 1 0 0 0 255 255 255 127 ++ eight 1 0 0 0 1 0 0 0 ++ eight 3 0 0 0 1 0 0 0
 
-abbrev catchVal1Val2 : List ℕ
-catchVal1Val2 = eight 1 0 0 0 1 0 0 0 ++ eight 1 0 0 0 2 0 0 0 ++ eight 5 0 0 0 1 0 0 0
+-- Catch (Val 1) (Val 2)
+abbrev caughtOne : List ℕ
+caughtOne = eight 1 0 0 0 1 0 0 0 ++ eight 1 0 0 0 2 0 0 0 ++ eight 5 0 0 0 1 0 0 0
 
 -- Val and Add 0 0
 abbrev usedTwice : List ℕ
@@ -87,17 +91,29 @@ usedTwice = eight 1 0 0 0 1 0 0 0 ++ eight 3 0 0 0 0 0 0 0
 
 unfoldable pub rehearsedRecipes : List Rehearsed
 rehearsedRecipes =
-    comes unblocked val9 quietly (number (pos 9) 1 1)
-    ∷ comes unblocked val9 (recalls 0b00000001) (throw 1 1)
-    ∷ comes blocked val9 (recalls 0b00000001) (number (pos 9) 1 1)
+    -- R1
+    comes unblocked justNine quietly (number (pos 9) 1 1)
+    -- R2
+    ∷ comes unblocked justNine (recalls 0b00000001) (throw 1 1)
+    -- R3
+    ∷ comes blocked justNine (recalls 0b00000001) (number (pos 9) 1 1)
+    -- R4
     ∷ comes unblocked treeA quietly (number (pos 11) 8 6)
+    -- R5
     ∷ comes unblocked treeA (recalls 0b00000100) (number (pos 11) 6 5)
+    -- R6
     ∷ comes unblocked treeA (recalls 0b00100000) (throw 10 6)
-    ∷ comes unblocked blockVal4 (recalls 0b00000110) (number (pos 4) 3 3)
-    ∷ comes unblocked blockVal4 (recalls 0b00000001) (throw 1 1)
-    ∷ comes blocked unblockBlockVal4 (recalls 0b00000010) (throw 3 2)
+    -- R7
+    ∷ comes unblocked blockedFour (recalls 0b00000110) (number (pos 4) 3 3)
+    -- R8
+    ∷ comes unblocked blockedFour (recalls 0b00000001) (throw 1 1)
+    -- R9
+    ∷ comes blocked openedBlockedFour (recalls 0b00000010) (throw 3 2)
+    -- R10
     ∷ comes blocked addOverTheTop quietly (number (negsuc 2147483647) 3 3)
-    ∷ comes unblocked catchVal1Val2 (recalls 0b00000100) (number (pos 2) 6 4)
+    -- R11
+    ∷ comes unblocked caughtOne (recalls 0b00000100) (number (pos 2) 6 4)
+    -- R12
     ∷ comes unblocked usedTwice quietly (refusedAnswer (record { reason = Uses; place = 0 }))
     ∷ []
 
