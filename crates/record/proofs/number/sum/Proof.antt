@@ -1,0 +1,46 @@
+-- `record::number::sum` meets its contract: the wrapped sum of two residues is the residue of the sum. Assumes nothing.
+use mathlib.Core.Path.{_≡_}
+use Prim.Native.Nat.{_+_, _%_, _^_}
+use lib.IntN.{_+ℤ_}
+use Rattle.rules.specs.Number.{residue}
+use mir.Syntax.{w32}
+use mir.Val.{SFits}
+use mathlib.Core.Path.{ap, sym, _∙_}
+use Prim.Native.Nat.{ℕ}
+use mir.Facts.{toZ-ofZ}
+use Rattle.rules.specs.Number.{signed, sum}
+use Rattle.record.proofs.Signed.{residue-sum}
+use borrow.Author.Needs.{needs}
+use Rattle.record.proofs.number.sum.Statement.{statement}
+use Rattle.record.proofs.number.sum.Tie as tie
+
+residue-requires : tie.Need-residue-requires
+residue-requires c κs = search needs
+
+residue-requires-2 : tie.Need-residue-requires-2
+residue-requires-2 c κs = search needs
+
+wrapping-add-u32-requires : tie.Need-wrapping-add-u32-requires
+wrapping-add-u32-requires c κs = search needs
+
+signed-requires : tie.Need-signed-requires
+signed-requires c κs = search needs
+
+returns : tie.Need-returns
+unfolding sum
+returns c =
+    let s = c .before .before .before .before in
+    let fits : SFits w32 (c .signed .result) = record { sfits = c .signed .ok } in
+    let bits : (c .before .before .before .residue .result + c .before .before .residue2 .result) % 2 ^ 32 ≡ residue (s .args .n +ℤ s .args .m) =
+        rw (c .before .before .before .residue .ensures, c .before .before .residue2 .ensures, toZ-ofZ (s .fits .n), toZ-ofZ (s .fits .m)) (sym (residue-sum (s .args .n) (s .args .m))) in
+    toZ-ofZ fits ∙ c .signed .ensures ∙ ap signed (c .before .wrapping-add-u32 .ensures ∙ bits)
+
+pub sum-spec : {M : Type 1} → statement M
+sum-spec =
+    tie.close
+    (tie.spec
+    residue-requires
+    residue-requires-2
+    wrapping-add-u32-requires
+    signed-requires
+    returns)

@@ -1,0 +1,39 @@
+// Fields of lent bytes, little-endian (document 01, "The recipe table" and "The code"). Each asks that it lies inside.
+
+ghost use mathlib.Core.Path.{_≡_};
+ghost use Prim.Native.Nat.{_+_, _<_};
+ghost use lib.ListN.{length};
+ghost use lib.Seq.{sets};
+ghost use Rattle.rules.specs.Bytes.{halfAt, wordAt};
+ghost use Rattle.rules.specs.CodeBytes.{instructionRecord};
+
+// Two bytes.
+pub fn half(bytes: &[u8], at: usize) -> usize
+    requires { ⌜ at + 1 < length (now bytes) ⌝ }
+    ensures { λ r. ⌜ (r ≡ halfAt (now (bytes .entry)) at) × (r < 65536) ⌝ }
+{
+    (bytes[at] as usize) + 256 * (bytes[at + 1] as usize)
+}
+
+// Four bytes.
+pub fn word(bytes: &[u8], at: usize) -> u32
+    requires { ⌜ at + 3 < length (now bytes) ⌝ }
+    ensures { λ r. ⌜ r ≡ wordAt (now (bytes .entry)) at ⌝ }
+{
+    (half(bytes, at) + 65536 * half(bytes, at + 2)) as u32
+}
+
+// A whole record: a tag, three zero bytes and an operand.
+pub fn put(bytes: &mut [u8], at: usize, tag: u8, operand: u32)
+    requires { ⌜ at + 7 < length (now bytes) ⌝ }
+    ensures { λ _. ⌜ now (bytes .exit) ≡ sets (now (bytes .entry)) at (instructionRecord tag operand) ⌝ }
+{
+    bytes[at] = tag;
+    bytes[at + 1] = 0;
+    bytes[at + 2] = 0;
+    bytes[at + 3] = 0;
+    bytes[at + 4] = (operand % 256) as u8;
+    bytes[at + 5] = (operand / 256 % 256) as u8;
+    bytes[at + 6] = (operand / 65536 % 256) as u8;
+    bytes[at + 7] = (operand / 16777216 % 256) as u8;
+}
