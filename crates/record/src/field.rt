@@ -4,15 +4,23 @@ ghost use mathlib.Core.Path.{_≡_};
 ghost use Prim.Native.Nat.{_+_, _<_};
 ghost use lib.ListN.{length};
 ghost use lib.Seq.{sets};
-ghost use Rattle.rules.specs.Bytes.{halfAt, wordAt};
+ghost use Rattle.rules.specs.Bytes.{byteAt, halfAt, wordAt};
 ghost use Rattle.rules.specs.CodeBytes.{instructionRecord};
+
+// One byte.
+pub fn byte(bytes: &[u8], at: usize) -> usize
+    requires { ⌜ at < length (now bytes) ⌝ }
+    ensures { λ r. ⌜ (r ≡ byteAt (now (bytes .entry)) at) × (r < 256) ⌝ }
+{
+    bytes[at] as usize
+}
 
 // Two bytes.
 pub fn half(bytes: &[u8], at: usize) -> usize
     requires { ⌜ at + 1 < length (now bytes) ⌝ }
     ensures { λ r. ⌜ (r ≡ halfAt (now (bytes .entry)) at) × (r < 65536) ⌝ }
 {
-    (bytes[at] as usize) + 256 * (bytes[at + 1] as usize)
+    byte(bytes, at) + 256 * byte(bytes, at + 1)
 }
 
 // Four bytes.

@@ -1,4 +1,5 @@
 pub mod Along
+pub mod CodeBytes
 pub mod Completeness
 pub mod Computing
 pub mod Demand
@@ -8,6 +9,8 @@ pub mod Order
 pub mod Path
 pub mod Quiet
 pub mod Rehearsed
+pub mod Sizes
 pub mod Soundness
+pub mod Tests
 pub mod Tried
 pub mod Witnesses

@@ -1,6 +1,4 @@
 -- `record::field::word` meets its contract. Assumes nothing.
-use mathlib.Core.Path.{_≡_}
-use native.Mathlib.Omega.{arith}
 use Rattle.rules.specs.Bytes.{wordAt}
 use borrow.Author.Needs.{needs}
 use Rattle.record.proofs.field.word.Statement.{statement}

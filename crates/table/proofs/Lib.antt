@@ -1,0 +1,5 @@
+pub mod Counting
+pub mod Reading
+pub mod Tally
+pub mod Unfolding
+pub mod Walk

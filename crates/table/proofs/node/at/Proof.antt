@@ -1,0 +1,115 @@
+-- `table::node::at` meets its contract, kind by kind. Assumes nothing.
+use mathlib.Core.Path.{refl, sym, _∙_}
+use mir.Syntax.{w32}
+use mir.Val.{SFits}
+use mir.Facts.{toZ-ofZ}
+use Rattle.rules.specs.Table.{kinds, kindNumbered, nodeOf}
+use Rattle.table.proofs.Reading.{kind-at, kind-other, node-of-kind, node-of-no-kind}
+use borrow.Author.Needs.{needs}
+use Rattle.table.proofs.node.at.Statement.{statement}
+use Rattle.table.proofs.node.at.Tie as tie
+
+mul-base : tie.Need-mul-base
+mul-base c = search needs
+
+add-half : tie.Need-add-half
+add-half c = search needs
+
+half-requires : tie.Need-half-requires
+half-requires c κs = search needs
+
+add-half-2 : tie.Need-add-half-2
+add-half-2 c = search needs
+
+half-requires-2 : tie.Need-half-requires-2
+half-requires-2 c κs = search needs
+
+byte-requires : tie.Need-byte-requires
+byte-requires c κs = search needs
+
+add-word : tie.Need-add-word
+add-word c = search needs
+
+word-requires : tie.Need-word-requires
+word-requires c κs = search needs
+
+signed-requires : tie.Need-signed-requires
+signed-requires c κs = search needs
+
+returns : tie.Need-returns
+unfolding kinds kindNumbered nodeOf
+returns c =
+    let s = c .before .before .before .before .before .before .before .args in
+    let fits : SFits w32 (c .signed .result) = record { sfits = c .signed .ok } in
+    rw (toZ-ofZ fits, c .signed .ensures, c .before .word .ensures)
+    (sym (node-of-kind (s .table .now) (s .j) (kind-at (s .table .now) (s .j) (c .before .before .before .byte .ensures .0) (c .before .before .match .keys1))))
+
+returns-2 : tie.Need-returns-2
+unfolding kinds kindNumbered nodeOf
+returns-2 c =
+    let s = c .before .before .before .before .before .args in
+    sym (node-of-kind (s .table .now) (s .j) (kind-at (s .table .now) (s .j) (c .before .byte .ensures .0) (c .match .keys2)))
+
+returns-3 : tie.Need-returns-3
+unfolding kinds kindNumbered nodeOf
+returns-3 c =
+    let s = c .before .before .before .before .before .args in
+    rw (c .before .before .before .half .ensures .0, c .before .before .half2 .ensures .0)
+    (sym (node-of-kind (s .table .now) (s .j) (kind-at (s .table .now) (s .j) (c .before .byte .ensures .0) (c .match .keys3))))
+
+returns-4 : tie.Need-returns-4
+unfolding kinds kindNumbered nodeOf
+returns-4 c =
+    let s = c .before .before .before .before .before .args in
+    rw (c .before .before .before .half .ensures .0, c .before .before .half2 .ensures .0)
+    (sym (node-of-kind (s .table .now) (s .j) (kind-at (s .table .now) (s .j) (c .before .byte .ensures .0) (c .match .keys4))))
+
+returns-5 : tie.Need-returns-5
+unfolding kinds kindNumbered nodeOf
+returns-5 c =
+    let s = c .before .before .before .before .before .args in
+    rw (c .before .before .before .half .ensures .0, c .before .before .half2 .ensures .0)
+    (sym (node-of-kind (s .table .now) (s .j) (kind-at (s .table .now) (s .j) (c .before .byte .ensures .0) (c .match .keys5))))
+
+returns-6 : tie.Need-returns-6
+unfolding kinds kindNumbered nodeOf
+returns-6 c =
+    let s = c .before .before .before .before .before .args in
+    rw (c .before .before .before .half .ensures .0)
+    (sym (node-of-kind (s .table .now) (s .j) (kind-at (s .table .now) (s .j) (c .before .byte .ensures .0) (c .match .keys6))))
+
+returns-7 : tie.Need-returns-7
+unfolding kinds kindNumbered nodeOf
+returns-7 c =
+    let s = c .before .before .before .before .before .args in
+    rw (c .before .before .before .half .ensures .0)
+    (sym (node-of-kind (s .table .now) (s .j) (kind-at (s .table .now) (s .j) (c .before .byte .ensures .0) (c .match .keys7))))
+
+returns-8 : tie.Need-returns-8
+returns-8 c =
+    let s = c .before .before .before .before .before .args in
+    let other = c .match .rest in
+    let missing = kind-other _ (other .0 .0 .0 .0 .0 .0 .1) (other .0 .0 .0 .0 .0 .1) (other .0 .0 .0 .0 .1) (other .0 .0 .0 .1) (other .0 .0 .1) (other .0 .1) (other .1) in
+    sym (node-of-no-kind (s .table .now) (s .j) (kind-at (s .table .now) (s .j) (c .before .byte .ensures .0) refl ∙ missing))
+
+pub at-spec : {M : Type 1} → statement M
+at-spec =
+    tie.close
+    (tie.spec
+    mul-base
+    add-half
+    half-requires
+    add-half-2
+    half-requires-2
+    byte-requires
+    add-word
+    word-requires
+    signed-requires
+    returns
+    returns-2
+    returns-3
+    returns-4
+    returns-5
+    returns-6
+    returns-7
+    returns-8)

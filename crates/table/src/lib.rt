@@ -1,0 +1,54 @@
+// The checker of recipe tables: the tests 1 to 5 on lent bytes, in document 01's order.
+
+pub mod node;
+mod uses;
+
+use rules::Reason;
+use rules::Refusal;
+use node::Reading;
+
+ghost use mathlib.Core.Path.{_≡_};
+ghost use Prim.Native.Nat.{_*_};
+ghost use lib.ListN.{length, replicate};
+ghost use Rattle.table.specs.Checking.{checkAnswer, Countable, NodesChecked};
+
+// What checking answers: how many nodes the table has, or the refusal.
+pub enum Checked {
+    Accepted(usize),
+    Refused(Refusal),
+}
+
+// "Tests 1; then each node upward for 2, 3, 4; then 5."
+pub fn check(table: &[u8]) -> Checked
+    ensures { λ r. ⌜ r ≡ checkAnswer (now (table .entry)) ⌝ }
+{
+    let size = table.len();
+    if size == 0 || 4096 < size || size % 8 != 0 {
+        return Checked::Refused(Refusal {
+            reason: Reason::TableSize,
+            place: 0,
+        });
+    }
+    let nodes = size / 8;
+    let mut counts = [0u16; 512];
+    match check_nodes(table, nodes, &mut counts) {
+        Checked::Accepted(_) => uses::check(&counts, nodes),
+        Checked::Refused(r) => Checked::Refused(r),
+    }
+}
+
+// The tests 2, 3 and 4 of each node upward, with the uses counted on the way.
+fn check_nodes(table: &[u8], nodes: usize, counts: &mut [u16]) -> Checked
+    requires { ⌜ Countable (now table) nodes (now counts) ⌝ }
+    ensures { λ r. ⌜ NodesChecked (now (table .entry)) nodes r (now (counts .exit)) ⌝ }
+{
+    let mut j: usize = 0;
+    while j < nodes {
+        match node::read(table, j) {
+            Reading::Sound(node) => uses::count(counts, node),
+            Reading::Refused(r) => return Checked::Refused(r),
+        }
+        j += 1;
+    }
+    Checked::Accepted(nodes)
+}

@@ -1,0 +1,100 @@
+// A node of a table, read from its record, and its tests 2, 3 and 4 (document 01, "The recipe table").
+
+use rules::Node;
+use rules::Reason;
+use rules::Refusal;
+
+ghost use mathlib.Core.Path.{_≡_};
+ghost use Prim.Native.Nat.{_+_, _*_, _<_};
+ghost use lib.Dec.{eqb};
+ghost use lib.ListN.{length};
+ghost use Rattle.rules.specs.Table.{nodeAt, operandsOf, allBelow};
+ghost use Rattle.table.specs.Checking.{readingAt, unusedZero};
+
+// What reading a node answers: the node, or the refusal.
+pub enum Reading {
+    Sound(Node),
+    Refused(Refusal),
+}
+
+// A node with its tests.
+pub fn read(table: &[u8], j: usize) -> Reading
+    requires { ⌜ 8 * j + 7 < length (now table) ⌝ }
+    ensures { λ r. ⌜ r ≡ readingAt (now (table .entry)) j ⌝ }
+{
+    let kind = record::field::byte(table, 8 * j);
+    if kind == 0 || 7 < kind {
+        return refused(Reason::Kind, j);
+    }
+    if unused(table, 8 * j, kind) != 0 {
+        return refused(Reason::UnusedByte, j);
+    }
+    let node = at(table, j);
+    if operands_below(node, j) {
+        Reading::Sound(node)
+    } else {
+        refused(Reason::Operand, j)
+    }
+}
+
+fn refused(reason: Reason, place: usize) -> Reading
+    ensures { λ r. ⌜ r ≡ Reading.Refused (record { reason = reason; place = place }) ⌝ }
+{
+    Reading::Refused(Refusal { reason, place })
+}
+
+// A node of an accepted table.
+pub fn at(table: &[u8], j: usize) -> Node
+    requires { ⌜ 8 * j + 7 < length (now table) ⌝ }
+    ensures { λ r. ⌜ r ≡ nodeAt (now (table .entry)) j ⌝ }
+{
+    let base = 8 * j;
+    let left = record::field::half(table, base + 2);
+    let right = record::field::half(table, base + 4);
+    match record::field::byte(table, base) {
+        1 => Node::Val(record::number::signed(record::field::word(table, base + 4))),
+        2 => Node::Throw,
+        3 => Node::Add(left, right),
+        4 => Node::Seqn(left, right),
+        5 => Node::Catch(left, right),
+        6 => Node::Block(left),
+        7 => Node::Unblock(left),
+        _ => Node::Throw,
+    }
+}
+
+// The bytes that a kind does not use, added up: 0 exactly if each is 0.
+fn unused(table: &[u8], base: usize, kind: usize) -> usize
+    requires { ⌜ base + 7 < length (now table) ⌝ }
+    ensures { λ r. ⌜ eqb r 0 ≡ unusedZero (now (table .entry)) base kind ⌝ }
+{
+    let second = record::field::byte(table, base + 1);
+    let left = record::field::half(table, base + 2);
+    let right = record::field::half(table, base + 4);
+    let last = record::field::half(table, base + 6);
+    match kind {
+        1 => second + left,
+        2 => second + left + right + last,
+        3 => second + last,
+        4 => second + last,
+        5 => second + last,
+        6 => second + right + last,
+        7 => second + right + last,
+        _ => 0,
+    }
+}
+
+// "An operand is a node number below the node that names it."
+fn operands_below(node: Node, j: usize) -> bool
+    ensures { λ r. ⌜ r ≡ allBelow j (operandsOf node) ⌝ }
+{
+    match node {
+        Node::Val(_) => true,
+        Node::Throw => true,
+        Node::Add(left, right) => left < j && right < j,
+        Node::Seqn(left, right) => left < j && right < j,
+        Node::Catch(left, right) => left < j && right < j,
+        Node::Block(left) => left < j,
+        Node::Unblock(left) => left < j,
+    }
+}

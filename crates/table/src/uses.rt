@@ -1,0 +1,64 @@
+// How often each node is an operand, counted in a lent array, and test 5 on the counts (document 01, "The recipe table").
+
+use rules::Node;
+use rules::Reason;
+use rules::Refusal;
+use super::Checked;
+
+ghost use mathlib.Core.Path.{_≡_};
+ghost use Prim.Native.Nat.{_-_, _≤_};
+ghost use mathlib.Core.List.{[], _∷_};
+ghost use lib.ListN.{length};
+ghost use Rattle.rules.specs.Refusals.{lowestRefusal};
+ghost use Rattle.rules.specs.Table.{operandsOf, allBelow};
+ghost use Rattle.table.specs.Checking.{checkedBy, countTest, counted, Room};
+
+// Each operand of the node is used once more.
+pub(crate) fn count(counts: &mut [u16], node: Node)
+    requires { ⌜ Room (now counts) (operandsOf node) ⌝ }
+    ensures { λ _. ⌜ now (counts .exit) ≡ counted (now (counts .entry)) (operandsOf node) ⌝ }
+{
+    match node {
+        Node::Val(_) => {}
+        Node::Throw => {}
+        Node::Add(left, right) => count_both(counts, left, right),
+        Node::Seqn(left, right) => count_both(counts, left, right),
+        Node::Catch(left, right) => count_both(counts, left, right),
+        Node::Block(left) => count_one(counts, left),
+        Node::Unblock(left) => count_one(counts, left),
+    }
+}
+
+fn count_both(counts: &mut [u16], left: usize, right: usize)
+    requires { ⌜ Room (now counts) (left ∷ right ∷ []) ⌝ }
+    ensures { λ _. ⌜ now (counts .exit) ≡ counted (now (counts .entry)) (left ∷ right ∷ []) ⌝ }
+{
+    count_one(counts, left);
+    count_one(counts, right);
+}
+
+fn count_one(counts: &mut [u16], node: usize)
+    requires { ⌜ Room (now counts) (node ∷ []) ⌝ }
+    ensures { λ _. ⌜ now (counts .exit) ≡ counted (now (counts .entry)) (node ∷ []) ⌝ }
+{
+    counts[node] += 1;
+}
+
+// "Every node but the last is an operand exactly once."
+pub(crate) fn check(counts: &[u16], nodes: usize) -> Checked
+    requires { ⌜ (1 ≤ nodes) × (nodes ≤ length (now counts)) ⌝ }
+    ensures { λ r. ⌜ r ≡ checkedBy nodes (lowestRefusal (countTest (now (counts .entry))) (nodes - 1)) ⌝ }
+{
+    let last = nodes - 1;
+    let mut k: usize = 0;
+    while k < last {
+        if counts[k] != 1 {
+            return Checked::Refused(Refusal {
+                reason: Reason::Uses,
+                place: k,
+            });
+        }
+        k += 1;
+    }
+    Checked::Accepted(nodes)
+}
