@@ -72,7 +72,8 @@ stored-late code a x xs b y ys h =
       stored-comm code a (x ∷ []) (a + 1) xs next,
       stored-append code a (x ∷ []) (a + 1) xs refl,
       stored-comm (stored code a (x ∷ xs)) b (y ∷ []) (b + 1) ys end,
-      stored-append (stored code a (x ∷ xs)) b (y ∷ []) (b + 1) ys refl)
+      stored-append (stored code a (x ∷ xs)) b (y ∷ []) (b + 1) ys refl,
+    )
     (stored-append code a (x ∷ xs) b (y ∷ ys) mid)
 
 -- ---- the kinds of nodes

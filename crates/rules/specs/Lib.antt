@@ -4,6 +4,7 @@ pub mod Code
 pub mod CodeBytes
 pub mod Compiling
 pub mod Demand
+pub mod Evaluating
 pub mod Evaluation
 pub mod Expression
 pub mod Limits

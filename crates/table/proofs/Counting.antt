@@ -23,8 +23,9 @@ use Rattle.rules.specs.Recipe.{ofNode, expressionAt}
 use Rattle.rules.specs.Table.{nodeAt, operandsOf, allBelow, times, uses}
 use Rattle.rules.specs.declared.Node.{Node}
 use Rattle.rules.specs.declared.Node.the-variants.{Val, Throw, Add, Seqn, Catch, Block, Unblock}
+use Rattle.table.specs.Acceptance.{Falling}
 use Rattle.table.specs.Column.{column, columnSum}
-use Rattle.table.proofs.Unfolding.{Falling, below-cons, expressionAt-unfolds}
+use Rattle.table.proofs.Unfolding.{below-cons, expressionAt-unfolds}
 
 -- ---- sums
 

@@ -1,3 +1,4 @@
+pub mod Acceptance
 pub mod Counting
 pub mod Reading
 pub mod Tally

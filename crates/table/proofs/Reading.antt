@@ -103,8 +103,8 @@ kind-other kind val throw add seqn catch block unblock =
       | yes below ↦ low kind l below val throw add
       | no above ↦ high kind (not-below kind above) h seqn catch block unblock
     ]) where
-  not-below : (kind : ℕ) → (kind < 4 → ⊥) → 4 ≤ kind
-  not-below kind above = omega arith
+      not-below : (kind : ℕ) → (kind < 4 → ⊥) → 4 ≤ kind
+      not-below kind above = omega arith
 
 -- ---- nodes
 

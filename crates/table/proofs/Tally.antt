@@ -57,7 +57,7 @@ module _ {counts : List ℕ} {k : ℕ} {ks : List ℕ} (room : Room counts (k �
   unfolding counted
   room-rest = record {
     places = rw length-set (below-cons (length counts) k ks (room .places) .1);
-    low = λ i. rw (count-more counts k i room-first) (omega (arith, room .low i, one-at-most i k))
+    low = λ i. rw (count-more counts k i room-first) (omega (arith, room .low i, one-at-most i k));
   }
 
 -- ---- the walk over the nodes
@@ -119,7 +119,7 @@ module _ {table : List ℕ} {j : ℕ} {counts : List ℕ} (so-far : CountsUses t
   unfolding uses
   node-counted = record {
     places = length-counted counts (operandsOf (nodeAt table j)) ∙ so-far .places;
-    count = λ k h. rw add-one (omega (arith, counted-times counts (operandsOf (nodeAt table j)) places k, so-far .count k h))
+    count = λ k h. rw add-one (omega (arith, counted-times counts (operandsOf (nodeAt table j)) places k, so-far .count k h));
   }
 
 -- ---- test 5

@@ -1,6 +1,5 @@
 -- The expression of a node is made from the expressions of its operands, where every operand lies below the node that names it.
 --
---   Falling                "an operand is a node number below the node that names it", for the first n nodes
 --   below-cons             of operands that are all below, the first is and the others are
 --   below-more             what is below a number is below a greater one
 --   expressionAt-unfolds   the levels are gone: the expression of a node, by those of its operands
@@ -18,9 +17,7 @@ use Rattle.rules.specs.Recipe.{ofNode, expressionWithin, expressionAt}
 use Rattle.rules.specs.Table.{nodeAt, operandsOf, allBelow}
 use Rattle.rules.specs.declared.Node.{Node}
 use Rattle.rules.specs.declared.Node.the-variants.{Val, Throw, Add, Seqn, Catch, Block, Unblock}
-
-abbrev pub Falling : List ℕ → ℕ → Type 0
-Falling table n = (j : ℕ) → j < n → allBelow j (operandsOf (nodeAt table j)) ≡ true
+use Rattle.table.specs.Acceptance.{Falling}
 
 pub below-cons : (j k : ℕ) (ks : List ℕ) → allBelow j (k ∷ ks) ≡ true → (k < j) × (allBelow j ks ≡ true)
 unfolding allBelow

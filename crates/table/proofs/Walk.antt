@@ -58,7 +58,7 @@ module _ {table : List ℕ} {n : ℕ} {counts : List ℕ} {j : ℕ} (so-far : Wa
           within = omega arith;
           few = so-far .few;
           passed = lowest-next (nodeTest table) j (so-far .passed) passed;
-          tally = rw same at (node-counted (so-far .tally) (passed-below table j passed) (omega (arith, so-far .few)))
+          tally = rw same at (node-counted (so-far .tally) (passed-below table j passed) (omega (arith, so-far .few)));
         }
 
   pub walk-stops : j < n → {r : Refusal} → readingAt table j ≡ Reading.Refused r → NodesChecked table n (Refused r) counts

@@ -3,10 +3,9 @@
 pub mod node;
 mod uses;
 
+use node::Reading;
 use rules::Reason;
 use rules::Refusal;
-use node::Reading;
-
 ghost use mathlib.Core.Path.{_≡_};
 ghost use Prim.Native.Nat.{_*_};
 ghost use lib.ListN.{length, replicate};

@@ -3,7 +3,6 @@
 use rules::Node;
 use rules::Reason;
 use rules::Refusal;
-
 ghost use mathlib.Core.Path.{_≡_};
 ghost use Prim.Native.Nat.{_+_, _*_, _<_};
 ghost use lib.Dec.{eqb};

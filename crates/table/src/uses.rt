@@ -1,10 +1,9 @@
 // How often each node is an operand, counted in a lent array, and test 5 on the counts (document 01, "The recipe table").
 
+use super::Checked;
 use rules::Node;
 use rules::Reason;
 use rules::Refusal;
-use super::Checked;
-
 ghost use mathlib.Core.Path.{_≡_};
 ghost use Prim.Native.Nat.{_-_, _≤_};
 ghost use mathlib.Core.List.{[], _∷_};

@@ -32,7 +32,7 @@ returns c =
     let s = c .before .before .before .before in
     let fits : SFits w32 (c .signed .result) = record { sfits = c .signed .ok } in
     let bits : (c .before .before .before .residue .result + c .before .before .residue2 .result) % 2 ^ 32 ≡ residue (s .args .n +ℤ s .args .m) =
-        rw (c .before .before .before .residue .ensures, c .before .before .residue2 .ensures, toZ-ofZ (s .fits .n), toZ-ofZ (s .fits .m)) (sym (residue-sum (s .args .n) (s .args .m))) in
+    rw (c .before .before .before .residue .ensures, c .before .before .residue2 .ensures, toZ-ofZ (s .fits .n), toZ-ofZ (s .fits .m)) (sym (residue-sum (s .args .n) (s .args .m))) in
     toZ-ofZ fits ∙ c .signed .ensures ∙ ap signed (c .before .wrapping-add-u32 .ensures ∙ bits)
 
 pub sum-spec : {M : Type 1} → statement M

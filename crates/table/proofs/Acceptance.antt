@@ -1,0 +1,100 @@
+-- What acceptance says of a table, and what it says of the recipe that the table holds.
+--
+--   accepted        a table that passes the tests 1 to 5
+--   check-passed, check-refused
+--                   what `check` answers says whether it does
+--   record-inside   a node's record lies in the table
+--   says            what a node says
+--   one-below, both-below
+--                   its operands lie below it
+--   recipe-nodes    "every node but the last is an operand exactly once": the recipe has each node once
+--   recipe-length   the code length is the sum of the last column of document 01's table of kinds
+--   recipe-short    "at most 2n - 1", and so at most 1,023
+--
+-- Assumes nothing.
+use Prim.Native.Nat.{ℕ, _+_, _*_, _-_, _≤_, _<_}
+use native.Mathlib.Omega.{arith}
+use borrow.Author.Tests.{eqb-true}
+use lib.ListN.{length}
+use mathlib.Core.Bool.{true}
+use mathlib.Core.List.{List, [], _∷_}
+use mathlib.Core.Option.{none, some}
+use mathlib.Core.Path.{_≡_, sym, _∙_}
+use Rattle.rules.specs.Bytes.{records}
+use Rattle.rules.specs.Code.{codeLength}
+use Rattle.rules.specs.Expression.{nodes}
+use Rattle.rules.specs.Recipe.{recipe}
+use Rattle.rules.specs.Refusals.{firstRefusal}
+use Rattle.rules.specs.Table.{nodeAt, allBelow, nodeTest, useTest, tableTests}
+use Rattle.rules.specs.declared.Node.{Node}
+use Rattle.rules.specs.declared.Refusal.{Refusal}
+use Rattle.rules.proofs.Holding.{codeLength-nodes}
+use Rattle.rules.proofs.Sizes.{whole-means}
+use Rattle.rules.proofs.Tests.{unless-passed, first-none, lowest-none}
+use Rattle.table.specs.Acceptance.{AcceptedTable, Says}
+use Rattle.table.specs.Checking.{checkAnswer}
+use Rattle.table.specs.Column.{columnSum}
+use Rattle.table.specs.declared.Checked.the-variants.{Accepted, Refused}
+use Rattle.table.proofs.Counting.{nodes-counted, codeLength-counted}
+use Rattle.table.proofs.Reading.{passed-below}
+use Rattle.table.proofs.Unfolding.{below-cons, expressionAt-unfolds}
+use Rattle.table.proofs.Walk.{checked-accepted, checked-refused}
+
+-- ---- the tests
+
+pub accepted : (table : List ℕ) → firstRefusal (tableTests table) ≡ none → AcceptedTable table
+unfolding tableTests useTest
+accepted table e =
+    let (whole, later) = first-none _ _ e in
+    let (walked, last) = first-none _ _ later in
+    let size = whole-means _ table (unless-passed _ _ _ whole) in
+    record {
+      size = size .size;
+      some = size .some;
+      few = omega (arith, size .few);
+      falling = λ j h. passed-below table j (lowest-none (nodeTest table) (records table) j h walked);
+      once = λ j h. eqb-true _ _ (unless-passed _ _ _ (lowest-none (useTest table) (records table - 1) j (omega arith) (first-none _ _ last .0)));
+    }
+
+module _ (table : List ℕ) where
+  pub check-passed : {n : ℕ} → checkAnswer table ≡ Accepted n → (firstRefusal (tableTests table) ≡ none) × (n ≡ records table)
+  unfolding checkAnswer
+  check-passed e = checked-accepted (firstRefusal (tableTests table)) e
+
+  pub check-refused : {r : Refusal} → checkAnswer table ≡ Refused r → firstRefusal (tableTests table) ≡ some r
+  unfolding checkAnswer
+  check-refused e = checked-refused (records table) (firstRefusal (tableTests table)) e
+
+-- ---- a node
+
+module _ {table : List ℕ} (table-accepted : AcceptedTable table) {j : ℕ} (h : j < records table) where
+  pub record-inside : 8 * j + 7 < length table
+  record-inside = omega (arith, table-accepted .size)
+
+  pub says : {node : Node} → node ≡ nodeAt table j → Says table j node
+  says e = record {
+    expression = rw e (expressionAt-unfolds table (records table) (table-accepted .falling) j h);
+    below = rw e (table-accepted .falling j h);
+  }
+
+pub one-below : (j left : ℕ) → allBelow j (left ∷ []) ≡ true → left < j
+one-below j left e = below-cons j left [] e .0
+
+pub both-below : (j left right : ℕ) → allBelow j (left ∷ right ∷ []) ≡ true → (left < j) × (right < j)
+both-below j left right e =
+    let (first, others) = below-cons j left (right ∷ []) e in
+    (first, one-below j right others)
+
+-- ---- the recipe
+
+module _ {table : List ℕ} (table-accepted : AcceptedTable table) where
+  pub recipe-nodes : nodes (recipe table) ≡ records table
+  unfolding recipe
+  recipe-nodes = nodes-counted table (records table) (table-accepted .falling) (table-accepted .once) (table-accepted .some)
+
+  pub recipe-length : codeLength (recipe table) ≡ columnSum table (records table)
+  unfolding recipe
+  recipe-length = codeLength-counted table (records table) (table-accepted .falling) (table-accepted .once) (table-accepted .some)
+
+  pub recipe-short : codeLength (recipe table) + 1 ≤ 2 * records table
+  recipe-short = omega (arith, codeLength-nodes (recipe table), recipe-nodes)
