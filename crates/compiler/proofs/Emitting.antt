@@ -1,136 +1,175 @@
--- What the compiler leaves in the code's buffer. For each kind of node, the stores that the code makes are the one store
--- of the node's instructions; the addresses b and c are those that its calls hand back.
+-- What each call and each store of `emit` asks and comes to, kind by kind: from what a node of an accepted table says, and what
+-- the calls on its operands left.
 --
---   stored          instructions, stored from address a on
---   emitted         an expression's
---   placed          one instruction, stored at address a
---   emits-val, emits-throw, emits-add, emits-seqn, emits-catch, emits-block, emits-unblock   a kind of node each
---   emits-scope     SET i, x, RESET: what Block and Unblock have in common
---   emitted-front   the whole code stands in front of what was there
+--   emitted-length   the buffer keeps its length
+--   node-room        there is room for an instruction of the node's code
+--   val-emitted, throw-emitted
+--                    a node with no operand
+--   add-left, add-right, add-spot, add-emitted
+--   seqn-left, seqn-spot, seqn-right, seqn-emitted
+--   catch-left, catch-right, catch-mark, catch-unmark, catch-emitted
+--   scope-left, scope-spot, block-emitted, unblock-emitted
+--                    its operands' code, the places of its own instructions, and the whole
 --
 -- Assumes nothing.
-use Prim.Native.Nat.{ℕ, _+_, _*_, _≤_}
+use Prim.Native.Nat.{ℕ, _+_, _*_, _≤_, _<_}
 use native.Mathlib.Omega.{arith}
 use lib.IntN.{ℤ}
-use lib.ListN.{length, drop, length-append}
-use lib.Seq.{sets, append-snoc}
-use mathlib.Core.List.{List, [], _∷_, _++_, append-nil}
-use mathlib.Core.Path.{_≡_, refl}
-use Rattle.rules.specs.Code.{codeLength, compile}
-use Rattle.rules.specs.CodeBytes.{instructionBytes, bytesOf}
-use Rattle.rules.specs.Expression.{Expression, Val, Throw, Add, Seqn, Catch, Block, Unblock}
-use Rattle.rules.specs.declared.Status.{Status}
+use lib.ListN.{length}
+use lib.Seq.{length-sets}
+use mathlib.Core.List.{List}
+use mathlib.Core.Path.{_≡_, refl, ap, _∙_}
+use Rattle.rules.specs.Code.{codeLength}
+use Rattle.rules.specs.Recipe.{ofNode, expressionAt}
 use Rattle.rules.specs.declared.Status.the-variants.{Blocked, Unblocked}
 use Rattle.rules.specs.declared.Instruction.{Instruction}
 use Rattle.rules.specs.declared.Instruction.the-variants.{Push, Pop, Mark, Unmark, Set, Reset}
-use Rattle.rules.proofs.Holding.{length-compile}
-use Rattle.rules.proofs.CodeBytes.{length-bytesOf, length-bytesOf-compile, bytesOf-append}
-use Rattle.compiler.proofs.Stores.{sets-append, sets-comm, sets-front}
+use Rattle.rules.specs.declared.Node.{Node}
+use Rattle.rules.specs.declared.Node.the-variants.{Val, Throw, Add, Seqn, Catch, Block, Unblock}
+use Rattle.table.specs.Acceptance.{Says}
+use Rattle.compiler.specs.Walking.{Placed, Emittable, Emitted}
+use Rattle.compiler.proofs.Operands.{Two, One, val-length, throw-length, add-operands, seqn-operands, catch-operands, block-operands, unblock-operands}
+use Rattle.compiler.proofs.Writing.{emits-val, emits-throw, emits-add, emits-seqn, emits-catch, emits-block, emits-unblock}
 
-abbrev pub stored : List ℕ → ℕ → List Instruction → List ℕ
-stored code a xs = sets code (8 * a) (bytesOf xs)
+-- ---- lengths
 
-abbrev pub emitted : List ℕ → ℕ → Expression → List ℕ
-emitted code at e = stored code at (compile at e)
+pub emitted-length : {table : List ℕ} {j : ℕ} {code : List ℕ} {at next : ℕ} {code' : List ℕ} → Emitted table j code at next code' → length code' ≡ length code
+emitted-length done = ap length (done .bytes) ∙ simp length-sets
 
-abbrev pub placed : List ℕ → ℕ → Instruction → List ℕ
-placed code a x = sets code (8 * a) (instructionBytes x)
+placed-length : {code : List ℕ} {a : ℕ} {x : Instruction} {code' : List ℕ} → Placed code a x code' → length code' ≡ length code
+placed-length done = ap length (done .bytes) ∙ simp length-sets
 
--- ---- runs of instructions
+module _ {table : List ℕ} {j : ℕ} {code : List ℕ} {at : ℕ} (whole : Emittable table j code at) where
+  -- a part of the node's code, in a buffer of the same length
+  part : {k : ℕ} {code' : List ℕ} {a : ℕ} → k < j → length code' ≡ length code
+      → a + codeLength (expressionAt table k) ≤ at + codeLength (expressionAt table j) → Emittable table k code' a
+  part below same inside = record {
+    accepted = whole .accepted;
+    within = omega (arith, whole .within);
+    short = omega (arith, whole .short);
+    room = omega (arith, whole .room);
+  }
 
-placed-stored : (code : List ℕ) (a : ℕ) (x : Instruction) → placed code a x ≡ stored code a (x ∷ [])
-unfolding bytesOf
-placed-stored code a x = rw (append-nil (instructionBytes x))
+  spot : (code' : List ℕ) {a : ℕ} → length code' ≡ length code → a < at + codeLength (expressionAt table j) → 8 * a + 7 < length code'
+  spot code' same inside = omega (arith, whole .room)
 
-module _ (code : List ℕ) (a : ℕ) (xs : List Instruction) (b : ℕ) (ys : List Instruction) where
-  stored-append : b ≡ a + length xs → stored (stored code a xs) b ys ≡ stored code a (xs ++ ys)
-  stored-append h =
-      let place : 8 * b ≡ 8 * a + length (bytesOf xs) = omega (arith, length-bytesOf xs) in
-      rw (bytesOf-append, sets-append, place)
+-- ---- a node with no operand
 
-  stored-comm : a + length xs ≤ b → stored (stored code b ys) a xs ≡ stored (stored code a xs) b ys
-  stored-comm h =
-      let apart : 8 * a + length (bytesOf xs) ≤ 8 * b = omega (arith, length-bytesOf xs) in
-      rw (sets-comm code (8 * a) (bytesOf xs) (8 * b) (bytesOf ys) apart)
+module _ {table : List ℕ} {j : ℕ} {code : List ℕ} {at : ℕ} (whole : Emittable table j code at) where
+  module _ {n : ℤ} (node : Says table j (Val n)) where
+    pub val-spot : 8 * at + 7 < length code
+    val-spot = spot whole code refl (omega (arith, val-length node))
 
-stored-three : (code : List ℕ) (a : ℕ) (xs : List Instruction) (b : ℕ) (ys : List Instruction) (c : ℕ) (zs : List Instruction)
-    → b ≡ a + length xs → c ≡ b + length ys → stored (stored (stored code a xs) b ys) c zs ≡ stored code a (xs ++ ys ++ zs)
-stored-three code a xs b ys c zs h k =
-    let end : c ≡ a + length (xs ++ ys) = simp length-append (omega arith) in
-    rw (stored-append code a xs b ys h) (stored-append code a (xs ++ ys) c zs end)
+    pub val-emitted : {code₁ : List ℕ} → Placed code at (Push n) code₁ → Emitted table j code at (at + 1) code₁
+    unfolding ofNode
+    val-emitted e = record { after = omega (arith, val-length node); bytes = e .bytes ∙ rw (node .expression) (emits-val code at n) }
 
--- MARK and UNMARK are stored after the code that they stand before.
-stored-late : (code : List ℕ) (a : ℕ) (x : Instruction) (xs : List Instruction) (b : ℕ) (y : Instruction) (ys : List Instruction)
-    → b ≡ a + 1 + length xs → stored (stored (stored (stored code (a + 1) xs) (b + 1) ys) a (x ∷ [])) b (y ∷ []) ≡ stored code a (x ∷ xs ++ y ∷ ys)
-stored-late code a x xs b y ys h =
-    let below : a + 1 ≤ b + 1 = omega arith in
-    let next : a + 1 ≤ a + 1 = omega arith in
-    let mid : b ≡ a + length (x ∷ xs) = omega arith in
-    let end : b + 1 ≤ b + 1 = omega arith in
-    rw (
-      stored-comm (stored code (a + 1) xs) a (x ∷ []) (b + 1) ys below,
-      stored-comm code a (x ∷ []) (a + 1) xs next,
-      stored-append code a (x ∷ []) (a + 1) xs refl,
-      stored-comm (stored code a (x ∷ xs)) b (y ∷ []) (b + 1) ys end,
-      stored-append (stored code a (x ∷ xs)) b (y ∷ []) (b + 1) ys refl,
-    )
-    (stored-append code a (x ∷ xs) b (y ∷ ys) mid)
+  module _ (node : Says table j Throw) where
+    pub throw-spot : 8 * at + 7 < length code
+    throw-spot = spot whole code refl (omega (arith, throw-length node))
 
--- ---- the kinds of nodes
+    pub throw-emitted : {code₁ : List ℕ} → Placed code at Instruction.Throw code₁ → Emitted table j code at (at + 1) code₁
+    unfolding ofNode
+    throw-emitted e = record { after = omega (arith, throw-length node); bytes = e .bytes ∙ rw (node .expression) (emits-throw code at) }
 
-module _ (code : List ℕ) (at : ℕ) where
-  pub emits-val : (n : ℤ) → placed code at (Push n) ≡ emitted code at (Val n)
-  unfolding compile
-  emits-val n = placed-stored code at (Push n)
+-- ---- a node with two operands
 
-  pub emits-throw : placed code at Instruction.Throw ≡ emitted code at Throw
-  unfolding compile
-  emits-throw = placed-stored code at Instruction.Throw
+module _ {table : List ℕ} {j : ℕ} {code : List ℕ} {at : ℕ} (whole : Emittable table j code at) {left right : ℕ} where
+  module _ (node : Says table j (Add left right)) where
+    pub add-left : Emittable table left code at
+    add-left = let two = add-operands node in part whole (two .left-below) refl (omega (arith, two .length))
 
-  pub emits-add : (x y : Expression) (b c : ℕ) → b ≡ at + codeLength x → c ≡ b + codeLength y
-      → placed (emitted (emitted code at x) b y) c Instruction.Add ≡ emitted code at (Add x y)
-  unfolding compile
-  emits-add x y b c h k =
-      let mid : b ≡ at + length (compile at x) = simp length-compile h in
-      let end : c ≡ b + length (compile b y) = simp length-compile k in
-      rw (placed-stored, ← h) (stored-three code at (compile at x) b (compile b y) c (Instruction.Add ∷ []) mid end)
+    module _ {middle : ℕ} {code₁ : List ℕ} (first : Emitted table left code at middle code₁) where
+      pub add-right : Emittable table right code₁ middle
+      add-right = let two = add-operands node in part whole (two .right-below) (emitted-length first) (omega (arith, two .length, first .after))
 
-  pub emits-seqn : (x y : Expression) (b : ℕ) → b ≡ at + codeLength x
-      → emitted (placed (emitted code at x) b Pop) (b + 1) y ≡ emitted code at (Seqn x y)
-  unfolding compile
-  emits-seqn x y b h =
-      let mid : b ≡ at + length (compile at x) = simp length-compile h in
-      rw (placed-stored, ← h, ← append-snoc) (stored-three code at (compile at x) b (Pop ∷ []) (b + 1) (compile (b + 1) y) mid refl)
+      module _ {end : ℕ} {code₂ : List ℕ} (second : Emitted table right code₁ middle end code₂) where
+        pub add-spot : 8 * end + 7 < length code₂
+        add-spot = spot whole code₂ (emitted-length second ∙ emitted-length first) (omega (arith, add-operands node .length, first .after, second .after))
 
-  pub emits-catch : (x y : Expression) (b c : ℕ) → b ≡ at + 1 + codeLength x → c ≡ b + 1 + codeLength y
-      → placed (placed (emitted (emitted code (at + 1) x) (b + 1) y) at (Mark (b + 1))) b (Unmark c) ≡ emitted code at (Catch x y)
-  unfolding compile
-  emits-catch x y b c h k =
-      let handler : at + codeLength x + 2 ≡ b + 1 = omega arith in
-      let mid : b ≡ at + 1 + length (compile (at + 1) x) = simp length-compile h in
-      simp (placed-stored, handler, ← k) (stored-late code at (Mark (b + 1)) (compile (at + 1) x) b (Unmark c) (compile (b + 1) y) mid)
+        pub add-emitted : {code₃ : List ℕ} → Placed code₂ end Instruction.Add code₃ → Emitted table j code at (end + 1) code₃
+        unfolding ofNode
+        add-emitted e = record {
+          after = omega (arith, add-operands node .length, first .after, second .after);
+          bytes = e .bytes ∙ rw (second .bytes, first .bytes, node .expression)
+              (emits-add code at (expressionAt table left) (expressionAt table right) middle end (first .after) (second .after));
+        }
 
-  pub emits-scope : (i : Status) (x : Expression) (b : ℕ) → b ≡ at + 1 + codeLength x
-      → placed (emitted (placed code at (Set i)) (at + 1) x) b Reset ≡ stored code at (Set i ∷ compile (at + 1) x ++ (Reset ∷ []))
-  emits-scope i x b h =
-      let end : b ≡ at + 1 + length (compile (at + 1) x) = simp length-compile h in
-      simp placed-stored (stored-three code at (Set i ∷ []) (at + 1) (compile (at + 1) x) b (Reset ∷ []) refl end)
+  module _ (node : Says table j (Seqn left right)) where
+    pub seqn-left : Emittable table left code at
+    seqn-left = let two = seqn-operands node in part whole (two .left-below) refl (omega (arith, two .length))
 
-  pub emits-block : (x : Expression) (b : ℕ) → b ≡ at + 1 + codeLength x
-      → placed (emitted (placed code at (Set Blocked)) (at + 1) x) b Reset ≡ emitted code at (Block x)
-  unfolding compile
-  emits-block = emits-scope Blocked
+    module _ {middle : ℕ} {code₁ : List ℕ} (first : Emitted table left code at middle code₁) where
+      pub seqn-spot : 8 * middle + 7 < length code₁
+      seqn-spot = spot whole code₁ (emitted-length first) (omega (arith, seqn-operands node .length, first .after))
 
-  pub emits-unblock : (x : Expression) (b : ℕ) → b ≡ at + 1 + codeLength x
-      → placed (emitted (placed code at (Set Unblocked)) (at + 1) x) b Reset ≡ emitted code at (Unblock x)
-  unfolding compile
-  emits-unblock = emits-scope Unblocked
+      module _ {code₂ : List ℕ} (pop : Placed code₁ middle Pop code₂) where
+        pub seqn-right : Emittable table right code₂ (middle + 1)
+        seqn-right =
+            let two = seqn-operands node in
+            part whole (two .right-below) (placed-length pop ∙ emitted-length first) (omega (arith, two .length, first .after))
 
--- ---- the whole code
+        pub seqn-emitted : {end : ℕ} {code₃ : List ℕ} → Emitted table right code₂ (middle + 1) end code₃ → Emitted table j code at end code₃
+        unfolding ofNode
+        seqn-emitted second = record {
+          after = omega (arith, seqn-operands node .length, first .after, second .after);
+          bytes = second .bytes ∙ rw (pop .bytes, first .bytes, node .expression)
+              (emits-seqn code at (expressionAt table left) (expressionAt table right) middle (first .after));
+        }
 
-pub emitted-front : (code : List ℕ) (e : Expression) → 8 * codeLength e ≤ length code
-    → emitted code 0 e ≡ bytesOf (compile 0 e) ++ drop (8 * codeLength e) code
-emitted-front code e h =
-    let size : length (bytesOf (compile 0 e)) ≡ 8 * codeLength e = length-bytesOf-compile 0 e in
-    let fits : length (bytesOf (compile 0 e)) ≤ length code = omega arith in
-    rw size at (sets-front code (bytesOf (compile 0 e)) fits)
+  module _ (node : Says table j (Catch left right)) where
+    pub catch-left : Emittable table left code (at + 1)
+    catch-left = let two = catch-operands node in part whole (two .left-below) refl (omega (arith, two .length))
+
+    module _ {middle : ℕ} {code₁ : List ℕ} (first : Emitted table left code (at + 1) middle code₁) where
+      pub catch-right : Emittable table right code₁ (middle + 1)
+      catch-right = let two = catch-operands node in part whole (two .right-below) (emitted-length first) (omega (arith, two .length, first .after))
+
+      module _ {end : ℕ} {code₂ : List ℕ} (second : Emitted table right code₁ (middle + 1) end code₂) where
+        pub catch-mark : 8 * at + 7 < length code₂
+        catch-mark = spot whole code₂ (emitted-length second ∙ emitted-length first) (omega (arith, catch-operands node .length))
+
+        module _ {code₃ : List ℕ} (mark : Placed code₂ at (Mark (middle + 1)) code₃) where
+          pub catch-unmark : 8 * middle + 7 < length code₃
+          catch-unmark =
+              spot whole code₃ (placed-length mark ∙ emitted-length second ∙ emitted-length first)
+              (omega (arith, catch-operands node .length, first .after))
+
+          pub catch-emitted : {code₄ : List ℕ} → Placed code₃ middle (Unmark end) code₄ → Emitted table j code at end code₄
+          unfolding ofNode
+          catch-emitted e = record {
+            after = omega (arith, catch-operands node .length, first .after, second .after);
+            bytes = e .bytes ∙ rw (mark .bytes, second .bytes, first .bytes, node .expression)
+                (emits-catch code at (expressionAt table left) (expressionAt table right) middle end (first .after) (second .after));
+          }
+
+-- ---- a node with one operand
+
+module _ {table : List ℕ} {j : ℕ} {code : List ℕ} {at : ℕ} (whole : Emittable table j code at) {left : ℕ} (one : One table j left 2) where
+  pub scope-set : 8 * at + 7 < length code
+  scope-set = spot whole code refl (omega (arith, one .length))
+
+  module _ {code₁ : List ℕ} {x : Instruction} (set : Placed code at x code₁) where
+    pub scope-left : Emittable table left code₁ (at + 1)
+    scope-left = part whole (one .left-below) (placed-length set) (omega (arith, one .length))
+
+    module _ {end : ℕ} {code₂ : List ℕ} (inner : Emitted table left code₁ (at + 1) end code₂) where
+      pub scope-reset : 8 * end + 7 < length code₂
+      scope-reset = spot whole code₂ (emitted-length inner ∙ placed-length set) (omega (arith, one .length, inner .after))
+
+module _ {table : List ℕ} {j : ℕ} {code : List ℕ} {at left end : ℕ} {code₁ code₂ code₃ : List ℕ} where
+  pub block-emitted : Says table j (Block left) → Placed code at (Set Blocked) code₁ → Emitted table left code₁ (at + 1) end code₂
+      → Placed code₂ end Reset code₃ → Emitted table j code at (end + 1) code₃
+  unfolding ofNode
+  block-emitted node set inner e = record {
+    after = omega (arith, block-operands node .length, inner .after);
+    bytes = e .bytes ∙ rw (inner .bytes, set .bytes, node .expression) (emits-block code at (expressionAt table left) end (inner .after));
+  }
+
+  pub unblock-emitted : Says table j (Unblock left) → Placed code at (Set Unblocked) code₁ → Emitted table left code₁ (at + 1) end code₂
+      → Placed code₂ end Reset code₃ → Emitted table j code at (end + 1) code₃
+  unfolding ofNode
+  unblock-emitted node set inner e = record {
+    after = omega (arith, unblock-operands node .length, inner .after);
+    bytes = e .bytes ∙ rw (inner .bytes, set .bytes, node .expression) (emits-unblock code at (expressionAt table left) end (inner .after));
+  }

@@ -1,0 +1,65 @@
+-- `compiler::compile` meets its contract: the table checked, its last node measured, then emitted. Assumes nothing.
+use native.Mathlib.Omega.{arith}
+use mathlib.Core.Path.{_≡_, sym, _∙_}
+use Rattle.table.specs.Checking.{checkAnswer}
+use Rattle.table.specs.declared.Checked.the-variants.{Accepted}
+use Rattle.compiler.proofs.Compiling.{nodes-some, root-measurable, root-emittable, table-refused, buffer-refused, compiled}
+use borrow.Author.Needs.{needs}
+use Rattle.compiler.proofs.compile.Statement.{statement}
+use Rattle.compiler.proofs.compile.Tie as tie
+
+checked : (c : tie.After-nodes) → checkAnswer (c .before .before .before .before .before .args .table .now) ≡ Accepted (c .nodes .given .0 .0)
+checked c = sym (c .before .before .check .ensures) ∙ c .nodes .given .1
+
+check-requires : tie.Need-check-requires
+check-requires c κs = search needs
+
+enum-known-nodes : tie.Need-enum-known-nodes
+enum-known-nodes c = search needs
+
+sub-measure : tie.Need-sub-measure
+sub-measure c = nodes-some _ (checked (c .before))
+
+measure-requires : tie.Need-measure-requires
+measure-requires c κs = root-measurable _ (checked (c .before))
+
+mul-if1 : tie.Need-mul-if1
+mul-if1 c = omega (arith, root-measurable _ (checked (c .before .before)) .short, c .measure .ensures)
+
+returns : tie.Need-returns
+returns c = buffer-refused _ (checked (c .before .before .before)) _ (c .before .measure .ensures) (c .if1 .taken)
+
+sub-emit : tie.Need-sub-emit
+sub-emit c = nodes-some _ (checked (c .before .before .before))
+
+emit-requires : tie.Need-emit-requires
+emit-requires c κs = root-emittable _ (checked (c .before .before .before .before)) _ (c .before .before .measure .ensures) (c .before .if1 .left)
+
+enum-known-r : tie.Need-enum-known-r
+enum-known-r c = search needs
+
+same-length : tie.Need-same-length
+same-length c = search needs
+
+returns-2 : tie.Need-returns-2
+returns-2 c = compiled _ (checked (c .before .before .before .before .before .before .before)) _ (c .before .before .before .before .before .measure .ensures) (c .before .before .before .before .if1 .left) (c .before .before .emit .ensures)
+
+returns-3 : tie.Need-returns-3
+returns-3 c = table-refused _ _ (sym (c .before .before .before .check .ensures) ∙ c .before .r .given .1)
+
+pub compile-spec : {M : Type 1} → statement M
+compile-spec =
+    tie.close
+    (tie.spec
+    check-requires
+    enum-known-nodes
+    sub-measure
+    measure-requires
+    mul-if1
+    returns
+    sub-emit
+    emit-requires
+    enum-known-r
+    same-length
+    returns-2
+    returns-3)

@@ -1,0 +1,37 @@
+// One instruction, written into the lent code (document 01, "The code").
+
+use rules::Instruction;
+use rules::Status;
+ghost use mathlib.Core.Path.{_≡_};
+ghost use Prim.Native.Nat.{_+_, _*_, _^_, _<_};
+ghost use lib.ListN.{length};
+ghost use Rattle.rules.specs.Answers.{statusNumber};
+ghost use Rattle.compiler.specs.Walking.{Placed, targetOf};
+
+// "Byte 0 the opcode, bytes 1 to 3 zero, bytes 4 to 7 the operand, zero where none."
+pub(crate) fn place(code: &mut [u8], at: usize, instruction: Instruction)
+    requires { ⌜ (8 * at + 7 < length (now code)) × (targetOf instruction < 2 ^ 32) ⌝ }
+    ensures { λ _. ⌜ Placed (now (code .entry)) at instruction (now (code .exit)) ⌝ }
+{
+    let base = 8 * at;
+    match instruction {
+        Instruction::Push(n) => record::field::put(code, base, 1, record::number::residue(n)),
+        Instruction::Throw => record::field::put(code, base, 2, 0),
+        Instruction::Add => record::field::put(code, base, 3, 0),
+        Instruction::Pop => record::field::put(code, base, 4, 0),
+        Instruction::Mark(target) => record::field::put(code, base, 5, target as u32),
+        Instruction::Unmark(target) => record::field::put(code, base, 6, target as u32),
+        Instruction::Set(status) => record::field::put(code, base, 7, number_of(status)),
+        Instruction::Reset => record::field::put(code, base, 8, 0),
+    }
+}
+
+// "A status is 0, blocked, or 1, unblocked."
+fn number_of(status: Status) -> u32
+    ensures { λ r. ⌜ r ≡ statusNumber status ⌝ }
+{
+    match status {
+        Status::Blocked => 0,
+        Status::Unblocked => 1,
+    }
+}
