@@ -5,7 +5,7 @@
 --                    kind by kind
 --   val-length, throw-length
 --                    a node with none
---   measure-left, measure-right, measure-one
+--   two-measurable, one-measurable
 --                    what can be measured, down to the operands
 --
 -- Assumes nothing.
@@ -19,7 +19,7 @@ use Rattle.rules.specs.Recipe.{ofNode, expressionAt}
 use Rattle.rules.specs.Table.{operandsOf}
 use Rattle.rules.specs.declared.Node.the-variants.{Val, Throw, Add, Seqn, Catch, Block, Unblock}
 use Rattle.table.specs.Acceptance.{Says}
-use Rattle.table.proofs.Acceptance.{one-below, both-below}
+use Rattle.table.proofs.Acceptance.{node-below, one-below, both-below}
 use Rattle.compiler.specs.Walking.{Measurable}
 
 pub record Two (table : List ℕ) (j left right added : ℕ) : Type 0 where
@@ -66,25 +66,13 @@ module _ {table : List ℕ} {j : ℕ} where
 
 -- ---- measuring
 
-module _ {table : List ℕ} {j : ℕ} (whole : Measurable table j) where
-  module _ {left right added : ℕ} (operands : Two table j left right added) where
-    pub measure-left : Measurable table left
-    measure-left = record {
-      accepted = whole .accepted;
-      within = omega (arith, whole .within, operands .left-below);
-      short = omega (arith, whole .short, operands .length);
-    }
+-- t is the measure at node j
+module _ {table : List ℕ} {j t : ℕ} (here : (j ≡ t) × Measurable table j) where
+  measurable : {k : ℕ} → k < j → codeLength (expressionAt table k) ≤ codeLength (expressionAt table j) → (k < t) × Measurable table k
+  measurable below shorter = (omega (arith, here .0), record { node = node-below (here .1 .node) below; short = omega (arith, here .1 .short) })
 
-    pub measure-right : Measurable table right
-    measure-right = record {
-      accepted = whole .accepted;
-      within = omega (arith, whole .within, operands .right-below);
-      short = omega (arith, whole .short, operands .length);
-    }
+  pub two-measurable : {left right added : ℕ} → Two table j left right added → ((left < t) × Measurable table left) × ((right < t) × Measurable table right)
+  two-measurable two = (measurable (two .left-below) (omega (arith, two .length)), measurable (two .right-below) (omega (arith, two .length)))
 
-  pub measure-one : {left added : ℕ} → One table j left added → Measurable table left
-  measure-one operand = record {
-    accepted = whole .accepted;
-    within = omega (arith, whole .within, operand .left-below);
-    short = omega (arith, whole .short, operand .length);
-  }
+  pub one-measurable : {left added : ℕ} → One table j left added → (left < t) × Measurable table left
+  one-measurable one = measurable (one .left-below) (omega (arith, one .length))

@@ -3,14 +3,12 @@
 use rules::Instruction;
 use rules::Status;
 ghost use mathlib.Core.Path.{_≡_};
-ghost use Prim.Native.Nat.{_+_, _*_, _^_, _<_};
-ghost use lib.ListN.{length};
 ghost use Rattle.rules.specs.Answers.{statusNumber};
-ghost use Rattle.compiler.specs.Walking.{Placed, targetOf};
+ghost use Rattle.compiler.specs.Walking.{Placeable, Placed};
 
 // "Byte 0 the opcode, bytes 1 to 3 zero, bytes 4 to 7 the operand, zero where none."
 pub(crate) fn place(code: &mut [u8], at: usize, instruction: Instruction)
-    requires { ⌜ (8 * at + 7 < length (now code)) × (targetOf instruction < 2 ^ 32) ⌝ }
+    requires { ⌜ Placeable (now code) at instruction ⌝ }
     ensures { λ _. ⌜ Placed (now (code .entry)) at instruction (now (code .exit)) ⌝ }
 {
     let base = 8 * at;

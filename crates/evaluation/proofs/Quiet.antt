@@ -1,6 +1,5 @@
 -- The end of a node by the ends of its operands (001, section 2), and the answer for a table by what `check` answers.
 --
---   node-says          what the node that was read says
 --   operand, operands  a node's operands lie below it, and can be evaluated in turn
 --   endAt              the end of a node, unless a recall strikes
 --   node-ends          a node ends as what it says: a number, a throw, or its operand in another status
@@ -11,21 +10,20 @@
 --                      after a number a sequence ends as its right side does, after a throw it throws
 --   catch-ends, catch-goes-on
 --                      a number stands, and after a throw the end is the handler's
---   last-evaluable     an accepted table has a last node, which can be evaluated
 --   accepted-ends, refused-answers
 --                      the answer for an accepted table, and for a refused one
 --
 -- Assumes nothing.
-use Prim.Native.Nat.{ℕ, _-_, _≤_, _<_}
+use Prim.Native.Nat.{ℕ, _-_, _<_}
 use native.Mathlib.Omega.{arith}
 use lib.IntN.{ℤ}
 use mathlib.Core.List.{List, [], _∷_}
-use mathlib.Core.Path.{_≡_, sym, _∙_}
+use mathlib.Core.Path.{_≡_}
 use Rattle.rules.specs.Evaluating.{evaluateAnswer}
 use Rattle.rules.specs.Evaluation.{quiet, quietAdd, quietSeqn, quietCatch}
 use Rattle.rules.specs.Number.{sum}
-use Rattle.rules.specs.Recipe.{ofNode, expressionAt, recipe}
-use Rattle.rules.specs.Table.{nodeAt, operandsOf}
+use Rattle.rules.specs.Recipe.{ofNode, expressionAt}
+use Rattle.rules.specs.Table.{operandsOf}
 use Rattle.rules.specs.declared.End.{End}
 use Rattle.rules.specs.declared.End.the-variants.{Number, Throw}
 use Rattle.rules.specs.declared.Node.{Node}
@@ -33,26 +31,22 @@ use Rattle.rules.specs.declared.Node.the-variants.{Add, Seqn, Catch}
 use Rattle.rules.specs.declared.Outcome.{Outcome}
 use Rattle.rules.specs.declared.Outcome.the-variants.{Ended}
 use Rattle.rules.specs.declared.Refusal.{Refusal}
-use Rattle.table.specs.Acceptance.{Says}
+use Rattle.table.specs.Acceptance.{AcceptedNode, Says}
 use Rattle.table.specs.Checking.{checkAnswer}
 use Rattle.table.specs.declared.Checked.the-variants.{Accepted, Refused}
-use Rattle.table.proofs.Acceptance.{accepted, check-passed, check-refused, says, one-below, both-below}
-use Rattle.evaluation.specs.Walking.{Evaluable}
+use Rattle.table.proofs.Acceptance.{check-passed, check-refused, node-below, one-below, both-below, last-recipe}
 
 -- ---- a node and its operands
 
-pub node-says : {table : List ℕ} {j : ℕ} {read node : Node} → Evaluable table j → read ≡ nodeAt table j → read ≡ node → Says table j node
-node-says here at told = says (here .accepted) (here .within) (sym told ∙ at)
-
 -- t is the measure at node j
-module _ {table : List ℕ} {j t : ℕ} {node : Node} (here : (j ≡ t) × Evaluable table j) (said : Says table j node) where
-  reached : {k : ℕ} → k < j → (k < t) × Evaluable table k
-  reached low = (omega (arith, here .0), record { accepted = here .1 .accepted; within = omega (arith, here .1 .within) })
+module _ {table : List ℕ} {j t : ℕ} {node : Node} (here : (j ≡ t) × AcceptedNode table j) (said : Says table j node) where
+  reached : {k : ℕ} → k < j → (k < t) × AcceptedNode table k
+  reached low = (omega (arith, here .0), node-below (here .1) low)
 
-  pub operand : {left : ℕ} → operandsOf node ≡ left ∷ [] → (left < t) × Evaluable table left
+  pub operand : {left : ℕ} → operandsOf node ≡ left ∷ [] → (left < t) × AcceptedNode table left
   operand names = reached (one-below j _ (rw names at (said .below)))
 
-  pub operands : {left right : ℕ} → operandsOf node ≡ left ∷ right ∷ [] → ((left < t) × Evaluable table left) × ((right < t) × Evaluable table right)
+  pub operands : {left right : ℕ} → operandsOf node ≡ left ∷ right ∷ [] → ((left < t) × AcceptedNode table left) × ((right < t) × AcceptedNode table right)
   operands names =
       let (first, second) = both-below j _ _ (rw names at (said .below)) in
       (reached first, reached second)
@@ -99,17 +93,9 @@ module _ {table : List ℕ} {j left right : ℕ} (said : Says table j (Catch lef
 -- ---- the answer
 
 module _ (table : List ℕ) where
-  pub last-evaluable : {n : ℕ} → checkAnswer table ≡ Accepted n → (1 ≤ n) × Evaluable table (n - 1)
-  last-evaluable e =
-      let (passed, all) = check-passed table e in
-      let table-accepted = accepted table passed in
-      (omega (arith, all, table-accepted .some), record { accepted = table-accepted; within = omega (arith, all, table-accepted .some) })
-
   pub accepted-ends : {n : ℕ} → checkAnswer table ≡ Accepted n → Ended (endAt table (n - 1)) ≡ evaluateAnswer table
-  unfolding evaluateAnswer recipe
-  accepted-ends e =
-      let (passed, all) = check-passed table e in
-      rw (passed, evaluateAnswer) (rw all)
+  unfolding evaluateAnswer
+  accepted-ends e = rw (check-passed table e .0, evaluateAnswer) (rw (last-recipe table e))
 
   pub refused-answers : {r : Refusal} → checkAnswer table ≡ Refused r → Outcome.Refused r ≡ evaluateAnswer table
   unfolding evaluateAnswer

@@ -8,7 +8,7 @@ ghost use mathlib.Core.Path.{_≡_};
 ghost use Rattle.rules.specs.Evaluating.{evaluateAnswer};
 ghost use Rattle.rules.specs.Evaluation.{quiet};
 ghost use Rattle.rules.specs.Recipe.{expressionAt};
-ghost use Rattle.evaluation.specs.Walking.{Evaluable};
+ghost use Rattle.table.specs.Acceptance.{AcceptedNode};
 
 // The end, or the refusal of the tests 1 to 5.
 pub fn evaluate(table: &[u8]) -> Outcome
@@ -22,7 +22,7 @@ pub fn evaluate(table: &[u8]) -> Outcome
 
 // Of a node of an accepted table. "The walk down an expression always reaches a smaller node number."
 fn end_of(table: &[u8], j: usize) -> End
-    requires { ⌜ Evaluable (now table) j ⌝ }
+    requires { ⌜ AcceptedNode (now table) j ⌝ }
     ensures { λ r. ⌜ r ≡ quiet (expressionAt (now (table .entry)) j) ⌝ }
 {
     match table::node::at(table, j) {

@@ -7,14 +7,14 @@
 --                  where one part fails, the test fails
 --
 -- Assumes nothing.
-use Prim.Native.Nat.{ℕ, _+_, _*_, _/_, _%_, _≤_, _<_}
+use Prim.Native.Nat.{ℕ, _*_, _%_, _≤_, _<_}
 use native.Mathlib.Omega.{arith}
 use borrow.Author.Tests.{lt-ltb, le-ltb, le-leb, lt-leb, eq-eqb, ne-eqb, ltb-true, leb-true, eqb-true}
 use lib.Dec.{ltb, leb, eqb}
 use lib.ListN.{length}
 use mathlib.Core.Bool.{true, false, _&&_, and-eq-true-iff, and-false}
 use mathlib.Core.List.{List}
-use mathlib.Core.Path.{_≡_, refl}
+use mathlib.Core.Path.{_≡_}
 use Rattle.rules.specs.Bytes.{records, wholeRecords}
 
 pub record Whole (most : ℕ) (bytes : List ℕ) : Type 0 where

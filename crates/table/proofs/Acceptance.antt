@@ -5,8 +5,11 @@
 --                   what `check` answers says whether it does
 --   record-inside   a node's record lies in the table
 --   says            what a node says
+--   node-below      a node below it is one too
 --   one-below, both-below
 --                   its operands lie below it
+--   last-node, last-recipe
+--                   an accepted table has a last node, whose expression is the recipe
 --   recipe-nodes    "every node but the last is an operand exactly once": the recipe has each node once
 --   recipe-length   the code length is the sum of the last column of document 01's table of kinds
 --   recipe-short    "at most 2n - 1", and so at most 1,023
@@ -19,11 +22,11 @@ use lib.ListN.{length}
 use mathlib.Core.Bool.{true}
 use mathlib.Core.List.{List, [], _∷_}
 use mathlib.Core.Option.{none, some}
-use mathlib.Core.Path.{_≡_, sym, _∙_}
+use mathlib.Core.Path.{_≡_, ap, sym, _∙_}
 use Rattle.rules.specs.Bytes.{records}
 use Rattle.rules.specs.Code.{codeLength}
 use Rattle.rules.specs.Expression.{nodes}
-use Rattle.rules.specs.Recipe.{recipe}
+use Rattle.rules.specs.Recipe.{expressionAt, recipe}
 use Rattle.rules.specs.Refusals.{firstRefusal}
 use Rattle.rules.specs.Table.{nodeAt, allBelow, nodeTest, useTest, tableTests}
 use Rattle.rules.specs.declared.Node.{Node}
@@ -31,7 +34,7 @@ use Rattle.rules.specs.declared.Refusal.{Refusal}
 use Rattle.rules.proofs.Holding.{codeLength-nodes}
 use Rattle.rules.proofs.Sizes.{whole-means}
 use Rattle.rules.proofs.Tests.{unless-passed, first-none, lowest-none}
-use Rattle.table.specs.Acceptance.{AcceptedTable, Says}
+use Rattle.table.specs.Acceptance.{AcceptedTable, AcceptedNode, Says}
 use Rattle.table.specs.Checking.{checkAnswer}
 use Rattle.table.specs.Column.{columnSum}
 use Rattle.table.specs.declared.Checked.the-variants.{Accepted, Refused}
@@ -67,15 +70,20 @@ module _ (table : List ℕ) where
 
 -- ---- a node
 
-module _ {table : List ℕ} (table-accepted : AcceptedTable table) {j : ℕ} (h : j < records table) where
+module _ {table : List ℕ} {j : ℕ} (here : AcceptedNode table j) where
   pub record-inside : 8 * j + 7 < length table
-  record-inside = omega (arith, table-accepted .size)
+  record-inside = omega (arith, here .accepted .size, here .within)
 
-  pub says : {node : Node} → node ≡ nodeAt table j → Says table j node
-  says e = record {
-    expression = rw e (expressionAt-unfolds table (records table) (table-accepted .falling) j h);
-    below = rw e (table-accepted .falling j h);
-  }
+  pub says : {read node : Node} → read ≡ nodeAt table j → read ≡ node → Says table j node
+  says read told =
+      let e = sym told ∙ read in
+      record {
+        expression = rw e (expressionAt-unfolds table (records table) (here .accepted .falling) j (here .within));
+        below = rw e (here .accepted .falling j (here .within));
+      }
+
+  pub node-below : {k : ℕ} → k < j → AcceptedNode table k
+  node-below low = record { accepted = here .accepted; within = omega (arith, here .within) }
 
 pub one-below : (j left : ℕ) → allBelow j (left ∷ []) ≡ true → left < j
 one-below j left e = below-cons j left [] e .0
@@ -86,6 +94,17 @@ both-below j left right e =
     (first, one-below j right others)
 
 -- ---- the recipe
+
+module _ (table : List ℕ) {n : ℕ} (answer : checkAnswer table ≡ Accepted n) where
+  pub last-node : (1 ≤ n) × AcceptedNode table (n - 1)
+  last-node =
+      let (passed, all) = check-passed table answer in
+      let table-accepted = accepted table passed in
+      (omega (arith, all, table-accepted .some), record { accepted = table-accepted; within = omega (arith, all, table-accepted .some) })
+
+  pub last-recipe : expressionAt table (n - 1) ≡ recipe table
+  unfolding recipe
+  last-recipe = ap (λ (m : ℕ). expressionAt table (m - 1)) (check-passed table answer .1)
 
 module _ {table : List ℕ} (table-accepted : AcceptedTable table) where
   pub recipe-nodes : nodes (recipe table) ≡ records table

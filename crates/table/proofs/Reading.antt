@@ -37,7 +37,6 @@ use Rattle.rules.specs.declared.Reason.the-variants.{UnusedByte, Operand}
 use Rattle.rules.specs.declared.Refusal.{Refusal}
 use Rattle.rules.proofs.Tests.{first-none, unless-passed}
 use Rattle.table.specs.Checking.{readingAt, unusedZero}
-use Rattle.table.specs.declared.node.Reading.{Reading}
 use Rattle.table.specs.declared.node.Reading.the-variants.{Sound, Refused}
 
 -- ---- operands

@@ -2,6 +2,7 @@
 --
 --   Falling         "an operand is a node number below the node that names it", for the first n nodes
 --   AcceptedTable   the tests 1 to 5, as facts
+--   AcceptedNode    a node of such a table
 --   Says            what a node of such a table says: its expression, by its operands' expressions, and that they lie below
 --
 -- Assumes nothing.
@@ -25,6 +26,10 @@ pub record AcceptedTable (table : List ℕ) : Type 0 where
   pub few : records table ≤ nodeLimit
   pub falling : Falling table (records table)
   pub once : (j : ℕ) → j + 1 < records table → uses table (records table) j ≡ 1
+
+pub record AcceptedNode (table : List ℕ) (j : ℕ) : Type 0 where
+  pub accepted : AcceptedTable table
+  pub within : j < records table
 
 pub record Says (table : List ℕ) (j : ℕ) (node : Node) : Type 0 where
   pub expression : expressionAt table j ≡ ofNode node (λ k. expressionAt table k)

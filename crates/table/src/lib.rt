@@ -7,8 +7,6 @@ use node::Reading;
 use rules::Reason;
 use rules::Refusal;
 ghost use mathlib.Core.Path.{_≡_};
-ghost use Prim.Native.Nat.{_*_};
-ghost use lib.ListN.{length, replicate};
 ghost use Rattle.table.specs.Checking.{checkAnswer, Countable, NodesChecked};
 
 // What checking answers: how many nodes the table has, or the refusal.

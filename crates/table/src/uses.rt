@@ -9,7 +9,7 @@ ghost use Prim.Native.Nat.{_-_, _≤_};
 ghost use mathlib.Core.List.{[], _∷_};
 ghost use lib.ListN.{length};
 ghost use Rattle.rules.specs.Refusals.{lowestRefusal};
-ghost use Rattle.rules.specs.Table.{operandsOf, allBelow};
+ghost use Rattle.rules.specs.Table.{operandsOf};
 ghost use Rattle.table.specs.Checking.{checkedBy, countTest, counted, Room};
 
 // Each operand of the node is used once more.

@@ -1,10 +1,11 @@
 -- `compiler::compile` meets its contract: the table checked, its last node measured, then emitted. Assumes nothing.
 use native.Mathlib.Omega.{arith}
+use borrow.Author.Needs.{needs}
 use mathlib.Core.Path.{_≡_, sym, _∙_}
 use Rattle.table.specs.Checking.{checkAnswer}
 use Rattle.table.specs.declared.Checked.the-variants.{Accepted}
-use Rattle.compiler.proofs.Compiling.{nodes-some, root-measurable, root-emittable, table-refused, buffer-refused, compiled}
-use borrow.Author.Needs.{needs}
+use Rattle.table.proofs.Acceptance.{last-node}
+use Rattle.compiler.proofs.Compiling.{last-measurable, last-emittable, table-refused, buffer-refused, compiled}
 use Rattle.compiler.proofs.compile.Statement.{statement}
 use Rattle.compiler.proofs.compile.Tie as tie
 
@@ -18,22 +19,22 @@ enum-known-nodes : tie.Need-enum-known-nodes
 enum-known-nodes c = search needs
 
 sub-measure : tie.Need-sub-measure
-sub-measure c = nodes-some _ (checked (c .before))
+sub-measure c = last-node _ (checked (c .before)) .0
 
 measure-requires : tie.Need-measure-requires
-measure-requires c κs = root-measurable _ (checked (c .before))
+measure-requires c κs = last-measurable _ (checked (c .before))
 
 mul-if1 : tie.Need-mul-if1
-mul-if1 c = omega (arith, root-measurable _ (checked (c .before .before)) .short, c .measure .ensures)
+mul-if1 c = omega (arith, last-measurable _ (checked (c .before .before)) .short, c .measure .ensures)
 
 returns : tie.Need-returns
 returns c = buffer-refused _ (checked (c .before .before .before)) _ (c .before .measure .ensures) (c .if1 .taken)
 
 sub-emit : tie.Need-sub-emit
-sub-emit c = nodes-some _ (checked (c .before .before .before))
+sub-emit c = last-node _ (checked (c .before .before .before)) .0
 
 emit-requires : tie.Need-emit-requires
-emit-requires c κs = root-emittable _ (checked (c .before .before .before .before)) _ (c .before .before .measure .ensures) (c .before .if1 .left)
+emit-requires c κs = last-emittable _ (checked (c .before .before .before .before)) _ (c .before .before .measure .ensures) (c .before .if1 .left)
 
 enum-known-r : tie.Need-enum-known-r
 enum-known-r c = search needs

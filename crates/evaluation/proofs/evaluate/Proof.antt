@@ -2,7 +2,8 @@
 use borrow.Author.Needs.{needs}
 use mathlib.Core.Path.{ap, sym, _∙_}
 use Rattle.rules.specs.declared.Outcome.the-variants.{Ended}
-use Rattle.evaluation.proofs.Quiet.{last-evaluable, accepted-ends, refused-answers}
+use Rattle.table.proofs.Acceptance.{last-node}
+use Rattle.evaluation.proofs.Quiet.{accepted-ends, refused-answers}
 use Rattle.evaluation.proofs.evaluate.Statement.{statement}
 use Rattle.evaluation.proofs.evaluate.Tie as tie
 
@@ -13,10 +14,10 @@ enum-known-nodes : tie.Need-enum-known-nodes
 enum-known-nodes c = search needs
 
 sub-end-of : tie.Need-sub-end-of
-sub-end-of c = last-evaluable _ (sym (c .before .before .before .check .ensures) ∙ c .before .nodes .given .1) .0
+sub-end-of c = last-node _ (sym (c .before .before .before .check .ensures) ∙ c .before .nodes .given .1) .0
 
 end-of-requires : tie.Need-end-of-requires
-end-of-requires c κs = last-evaluable _ (sym (c .before .before .before .check .ensures) ∙ c .before .nodes .given .1) .1
+end-of-requires c κs = last-node _ (sym (c .before .before .before .check .ensures) ∙ c .before .nodes .given .1) .1
 
 enum-known-r : tie.Need-enum-known-r
 enum-known-r c = search needs

@@ -1,19 +1,17 @@
 -- `table::check` meets its contract: the size, the walk over the nodes, then the counts. Assumes nothing.
-use Rattle.rules.specs.Refusals.{lowestRefusal}
-use Rattle.rules.specs.Table.{nodeTest}
 use native.Mathlib.Omega.{arith}
 use borrow.Author.Tests.{ltb-true, ltb-false, eqb-true, eqb-false, not-true, not-false}
-use mathlib.Core.Bool.{true, false}
+use borrow.Author.Needs.{needs}
+use mathlib.Core.Bool.{true}
 use mathlib.Core.Logic.{⊎-elim}
 use mathlib.Core.Option.{none}
-use mathlib.Core.Path.{_≡_, refl, ap, sym, _∙_}
+use mathlib.Core.Path.{_≡_, ap, sym, _∙_}
 use Rattle.rules.specs.Bytes.{wholeRecords}
 use Rattle.rules.specs.Limits.{tableLimit}
-use Rattle.rules.proofs.Sizes.{Whole, whole, whole-means, not-whole-none, not-whole-many, not-whole-part}
+use Rattle.rules.proofs.Sizes.{whole, whole-means, not-whole-none, not-whole-many, not-whole-part}
 use Rattle.table.specs.Checking.{checkedBy}
 use Rattle.table.proofs.Tally.{none-counted, counted-tests}
 use Rattle.table.proofs.Walk.{checked-accepted, checked-refused, check-size, check-node, check-uses}
-use borrow.Author.Needs.{needs}
 use Rattle.table.proofs.check.Statement.{statement}
 use Rattle.table.proofs.check.Tie as tie
 

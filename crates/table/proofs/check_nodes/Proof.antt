@@ -3,7 +3,7 @@
 use Prim.Native.Nat.{_-_}
 use native.Mathlib.Omega.{arith}
 use borrow.Author.Needs.{needs}
-use mathlib.Core.Path.{_≡_, sym, _∙_}
+use mathlib.Core.Path.{sym, _∙_}
 use Rattle.table.proofs.Walk.{Walked, walk-begins, walk-room, walk-goes-on, walk-stops, walk-ends}
 use Rattle.table.proofs.check_nodes.Statement.{statement}
 use Rattle.table.proofs.check_nodes.Tie as tie

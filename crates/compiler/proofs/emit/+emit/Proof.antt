@@ -1,25 +1,25 @@
--- The proof of the cycle of calls {emit}. The measure is the node number, which falls at each call; what each call and each store
--- asks and comes to is in `Emitting`. Assumes nothing.
+-- `emit` meets its contract, kind by kind, since an operand's number is below its node's: the number is the measure. What each
+-- call and each store asks and comes to is said in `Emitting`. Assumes nothing.
 use Prim.Native.Nat.{ℕ, _<_}
 use native.Mathlib.Omega.{arith}
 use borrow.Author.Needs.{needs}
-use mathlib.Core.Path.{sym, _∙_}
+use borrow.Fn.Kinds.{In}
+use borrow.Fn.PlainCycle.{Measures, is, falls, and}
+use mathlib.Core.Path.{_≡_}
 use mir.Syntax.{w32}
 use mir.Val.{SFits}
 use mir.Facts.{toZ-ofZ}
-use borrow.Fn.Kinds.{In}
-use borrow.Fn.PlainCycle.{Measures, is, falls, and}
+use Rattle.rules.specs.declared.Node.{Node}
+use Rattle.table.specs.Acceptance.{Says}
+use Rattle.table.proofs.Acceptance.{record-inside, says}
+use Rattle.table.proofs.node.at.Reads as at-reads
+use Rattle.compiler.specs.Walking.{Emittable}
+use Rattle.compiler.proofs.Emitting.{emitted-length, val-spot, val-emitted, throw-spot, throw-emitted, add-left, add-right, add-spot, add-emitted, seqn-left, seqn-spot, seqn-right, seqn-emitted, catch-left, catch-right, catch-mark, catch-unmark, catch-emitted, scope-set, scope-left, scope-reset, block-emitted, unblock-emitted}
+use Rattle.compiler.proofs.Operands.{seqn-operands, catch-operands, block-operands, unblock-operands}
+use Rattle.compiler.proofs.place.place.Reads as place-reads
 use Rattle.compiler.proofs.emit.emit.Reads as emit
 use Rattle.compiler.proofs.emit.emit.Kinds as emit-kinds
 use Rattle.compiler.proofs.emit.+emit.Lts-emit as emit-lts
-use Rattle.compiler.proofs.place.place.Reads as place-reads
-use Rattle.table.proofs.node.at.Reads as at-reads
-use Rattle.rules.specs.declared.Node.the-variants.{Val, Throw, Add, Seqn, Catch, Block, Unblock}
-use Rattle.table.specs.Acceptance.{Says}
-use Rattle.table.proofs.Acceptance.{record-inside, says}
-use Rattle.compiler.specs.Walking.{targetOf}
-use Rattle.compiler.proofs.Emitting.{emitted-length, val-spot, val-emitted, throw-spot, throw-emitted, add-left, add-right, add-spot, add-emitted, seqn-left, seqn-spot, seqn-right, seqn-emitted, catch-left, catch-right, catch-mark, catch-unmark, catch-emitted, scope-set, scope-left, scope-reset, block-emitted, unblock-emitted}
-use Rattle.compiler.proofs.Operands.{add-operands, seqn-operands, catch-operands, block-operands, unblock-operands}
 use Rattle.compiler.proofs.emit.+emit.{statement}
 use Rattle.compiler.proofs.emit.+emit.Tie.{close}
 
@@ -35,210 +35,298 @@ asked t = and 2 emit-kinds.ps (falls 2 emit-kinds.ps _<_ μ-emit t) emit.Pre
 abbrev claims : ℕ → emit-lts.Claims
 claims t = (at-reads.Asked, at-reads.Learnt, place-reads.Asked, place-reads.Learnt, asked t, emit.Post)
 
--- ---- what the node says
+module _ (t : ℕ) where
+  -- what is given, and what the node that was read says
+  here : (c : emit-lts.After-at (claims t) (given t) emit.Post)
+      → (c .before .before .before .args .j ≡ t)
+      × Emittable (c .before .before .before .args .table .now) (c .before .before .before .args .j) (c .before .before .before .args .code .now) (c .before .before .before .args .at)
+  here c = c .before .before .before .pre
 
-val : (t : ℕ) (c : emit-lts.After-n (claims t) (given t) emit.Post) → Says (c .before .before .before .before .before .args .table .now) (c .before .before .before .before .before .args .j) (Val (c .n .given .0 .0))
-val t c = says (c .before .before .before .before .before .pre .1 .accepted) (c .before .before .before .before .before .pre .1 .within) (sym (c .n .given .1) ∙ c .before .before .at .ensures)
+  said : (c : emit-lts.After-at (claims t) (given t) emit.Post) {node : Node} → c .at .result ≡ node
+      → Says (c .before .before .before .args .table .now) (c .before .before .before .args .j) node
+  said c told = says (c .before .before .before .pre .1 .node) (c .at .ensures) told
 
-throw : (t : ℕ) (c : emit-lts.After-enum-told (claims t) (given t) emit.Post) → Says (c .before .before .before .before .before .args .table .now) (c .before .before .before .before .before .args .j) (Throw)
-throw t c = says (c .before .before .before .before .before .pre .1 .accepted) (c .before .before .before .before .before .pre .1 .within) (sym (c .enum-told .given .1) ∙ c .before .before .at .ensures)
+  at-requires : emit-lts.Need-at-requires (claims t) (given t) emit.Post
+  at-requires c κs = record-inside (c .before .before .pre .1 .node)
 
-add : (t : ℕ) (c : emit-lts.After-left (claims t) (given t) emit.Post) → Says (c .before .before .before .before .before .args .table .now) (c .before .before .before .before .before .args .j) (Add (c .left .given .0 .0) (c .left .given .0 .1 .0))
-add t c = says (c .before .before .before .before .before .pre .1 .accepted) (c .before .before .before .before .before .pre .1 .within) (sym (c .left .given .1) ∙ c .before .before .at .ensures)
+  enum-known-n : emit-lts.Need-enum-known-n (claims t) (given t) emit.Post
+  enum-known-n c = search needs
 
-seqn : (t : ℕ) (c : emit-lts.After-left2 (claims t) (given t) emit.Post) → Says (c .before .before .before .before .before .args .table .now) (c .before .before .before .before .before .args .j) (Seqn (c .left2 .given .0 .0) (c .left2 .given .0 .1 .0))
-seqn t c = says (c .before .before .before .before .before .pre .1 .accepted) (c .before .before .before .before .before .pre .1 .within) (sym (c .left2 .given .1) ∙ c .before .before .at .ensures)
+  place-requires : emit-lts.Need-place-requires (claims t) (given t) emit.Post
+  place-requires c κs =
+      let arm = c .before .before in
+      val-spot (here (arm .before .before)) (said (arm .before .before) (arm .n .given .1)) _
 
-catch : (t : ℕ) (c : emit-lts.After-left3 (claims t) (given t) emit.Post) → Says (c .before .before .before .before .before .args .table .now) (c .before .before .before .before .before .args .j) (Catch (c .left3 .given .0 .0) (c .left3 .given .0 .1 .0))
-catch t c = says (c .before .before .before .before .before .pre .1 .accepted) (c .before .before .before .before .before .pre .1 .within) (sym (c .left3 .given .1) ∙ c .before .before .at .ensures)
+  add-result : emit-lts.Need-add-result (claims t) (given t) emit.Post
+  add-result c =
+      let arm = c .before .before .before .before .before in
+      omega (arith, here (arm .before .before) .1 .short)
 
-block : (t : ℕ) (c : emit-lts.After-left4 (claims t) (given t) emit.Post) → Says (c .before .before .before .before .before .args .table .now) (c .before .before .before .before .before .args .j) (Block (c .left4 .given .0 .0))
-block t c = says (c .before .before .before .before .before .pre .1 .accepted) (c .before .before .before .before .before .pre .1 .within) (sym (c .left4 .given .1) ∙ c .before .before .at .ensures)
+  enum-told : emit-lts.Need-enum-told (claims t) (given t) emit.Post
+  enum-told c = search needs
 
-unblock : (t : ℕ) (c : emit-lts.After-left5 (claims t) (given t) emit.Post) → Says (c .before .before .before .before .before .args .table .now) (c .before .before .before .before .before .args .j) (Unblock (c .left5 .given .0 .0))
-unblock t c = says (c .before .before .before .before .before .pre .1 .accepted) (c .before .before .before .before .before .pre .1 .within) (sym (c .left5 .given .1) ∙ c .before .before .at .ensures)
+  place-requires-2 : emit-lts.Need-place-requires-2 (claims t) (given t) emit.Post
+  place-requires-2 c κs =
+      let arm = c .before in
+      throw-spot (here (arm .before .before)) (said (arm .before .before) (arm .enum-told .given .1))
 
--- ---- the needs
+  add-result-2 : emit-lts.Need-add-result-2 (claims t) (given t) emit.Post
+  add-result-2 c =
+      let arm = c .before .before .before .before in
+      omega (arith, here (arm .before .before) .1 .short)
 
-at-requires : (t : ℕ) → emit-lts.Need-at-requires (claims t) (given t) emit.Post
-at-requires t c κs = record-inside (c .before .before .pre .1 .accepted) (c .before .before .pre .1 .within)
+  enum-known-left : emit-lts.Need-enum-known-left (claims t) (given t) emit.Post
+  enum-known-left c = search needs
 
-enum-known-n : (t : ℕ) → emit-lts.Need-enum-known-n (claims t) (given t) emit.Post
-enum-known-n t c = search needs
+  emit-requires : emit-lts.Need-emit-requires (claims t) (given t) emit.Post
+  emit-requires c κs =
+      let arm = c .before .before in
+      add-left (here (arm .before .before)) (said (arm .before .before) (arm .left .given .1))
 
-place-requires : (t : ℕ) → emit-lts.Need-place-requires (claims t) (given t) emit.Post
-unfolding targetOf
-place-requires t c κs = (val-spot (c .before .before .before .before .before .before .before .pre .1) (val t (c .before .before)), omega arith)
+  emit-requires-2 : emit-lts.Need-emit-requires-2 (claims t) (given t) emit.Post
+  emit-requires-2 c κs =
+      let left = c .before .before .before in
+      let arm = left .before .before .before in
+      add-right (here (arm .before .before)) (said (arm .before .before) (arm .left .given .1)) (left .emit .ensures)
 
-add-result : (t : ℕ) → emit-lts.Need-add-result (claims t) (given t) emit.Post
-add-result t c = omega (arith, c .before .before .before .before .before .before .before .before .before .before .pre .1 .short)
+  place-requires-3 : emit-lts.Need-place-requires-3 (claims t) (given t) emit.Post
+  place-requires-3 c κs =
+      let right = c .before .before .before in
+      let left = right .before .before .before .before in
+      let arm = left .before .before .before in
+      add-spot (here (arm .before .before)) (said (arm .before .before) (arm .left .given .1)) (left .emit .ensures) (right .emit2 .ensures)
 
-enum-told : (t : ℕ) → emit-lts.Need-enum-told (claims t) (given t) emit.Post
-enum-told t c = search needs
+  add-result-3 : emit-lts.Need-add-result-3 (claims t) (given t) emit.Post
+  add-result-3 c =
+      let add = c .before .before in
+      let right = add .before .before .before .before in
+      let left = right .before .before .before .before in
+      let arm = left .before .before .before in
+      omega (arith, here (arm .before .before) .1 .short, add-emitted (here (arm .before .before)) (said (arm .before .before) (arm .left .given .1)) (left .emit .ensures) (right .emit2 .ensures) (add .place3 .ensures) .after)
 
-place-requires-2 : (t : ℕ) → emit-lts.Need-place-requires-2 (claims t) (given t) emit.Post
-unfolding targetOf
-place-requires-2 t c κs = (throw-spot (c .before .before .before .before .before .before .pre .1) (throw t (c .before)), omega arith)
+  enum-known-left-2 : emit-lts.Need-enum-known-left-2 (claims t) (given t) emit.Post
+  enum-known-left-2 c = search needs
 
-add-result-2 : (t : ℕ) → emit-lts.Need-add-result-2 (claims t) (given t) emit.Post
-add-result-2 t c = omega (arith, c .before .before .before .before .before .before .before .before .before .pre .1 .short)
+  emit-requires-3 : emit-lts.Need-emit-requires-3 (claims t) (given t) emit.Post
+  emit-requires-3 c κs =
+      let arm = c .before .before in
+      seqn-left (here (arm .before .before)) (said (arm .before .before) (arm .left2 .given .1))
 
-enum-known-left : (t : ℕ) → emit-lts.Need-enum-known-left (claims t) (given t) emit.Post
-enum-known-left t c = search needs
+  place-requires-4 : emit-lts.Need-place-requires-4 (claims t) (given t) emit.Post
+  place-requires-4 c κs =
+      let left = c .before .before .before in
+      let arm = left .before .before .before in
+      seqn-spot (here (arm .before .before)) (said (arm .before .before) (arm .left2 .given .1)) (left .emit3 .ensures)
 
-emit-requires : (t : ℕ) → emit-lts.Need-emit-requires (claims t) (given t) emit.Post
-emit-requires t c κs =
-    (omega (arith, add-operands (add t (c .before .before)) .left-below, c .before .before .before .before .before .before .before .pre .0), add-left (c .before .before .before .before .before .before .before .pre .1) (add t (c .before .before)))
+  add-emit : emit-lts.Need-add-emit (claims t) (given t) emit.Post
+  add-emit c =
+      let pop = c .before .before .before in
+      let left = pop .before .before .before .before in
+      let arm = left .before .before .before in
+      omega (arith, here (arm .before .before) .1 .short, seqn-operands (said (arm .before .before) (arm .left2 .given .1)) .length, left .emit3 .ensures .after)
 
-emit-requires-2 : (t : ℕ) → emit-lts.Need-emit-requires-2 (claims t) (given t) emit.Post
-emit-requires-2 t c κs =
-    (omega (arith, add-operands (add t (c .before .before .before .before .before .before)) .right-below, c .before .before .before .before .before .before .before .before .before .before .before .pre .0), add-right (c .before .before .before .before .before .before .before .before .before .before .before .pre .1) (add t (c .before .before .before .before .before .before)) (c .before .before .before .emit .ensures))
+  emit-requires-4 : emit-lts.Need-emit-requires-4 (claims t) (given t) emit.Post
+  emit-requires-4 c κs =
+      let pop = c .before .before .before in
+      let left = pop .before .before .before .before in
+      let arm = left .before .before .before in
+      seqn-right (here (arm .before .before)) (said (arm .before .before) (arm .left2 .given .1)) (left .emit3 .ensures) (pop .place4 .ensures)
 
-place-requires-3 : (t : ℕ) → emit-lts.Need-place-requires-3 (claims t) (given t) emit.Post
-unfolding targetOf
-place-requires-3 t c κs = (add-spot (c .before .before .before .before .before .before .before .before .before .before .before .before .before .before .before .pre .1) (add t (c .before .before .before .before .before .before .before .before .before .before)) (c .before .before .before .before .before .before .before .emit .ensures) (c .before .before .before .emit2 .ensures), omega arith)
+  enum-known-left-3 : emit-lts.Need-enum-known-left-3 (claims t) (given t) emit.Post
+  enum-known-left-3 c = search needs
 
-add-result-3 : (t : ℕ) → emit-lts.Need-add-result-3 (claims t) (given t) emit.Post
-add-result-3 t c =
-    omega (arith, add-operands (add t (c .before .before .before .before .before .before .before .before .before .before .before .before .before)) .length, c .before .before .before .before .before .before .before .before .before .before .before .before .before .before .before .before .before .before .pre .1 .short, c .before .before .before .before .before .before .before .before .before .before .emit .ensures .after, c .before .before .before .before .before .before .emit2 .ensures .after)
+  add-emit-2 : emit-lts.Need-add-emit-2 (claims t) (given t) emit.Post
+  add-emit-2 c =
+      let arm = c .before .before in
+      omega (arith, here (arm .before .before) .1 .short)
 
-enum-known-left-2 : (t : ℕ) → emit-lts.Need-enum-known-left-2 (claims t) (given t) emit.Post
-enum-known-left-2 t c = search needs
+  emit-requires-5 : emit-lts.Need-emit-requires-5 (claims t) (given t) emit.Post
+  emit-requires-5 c κs =
+      let arm = c .before .before in
+      catch-left (here (arm .before .before)) (said (arm .before .before) (arm .left3 .given .1))
 
-emit-requires-3 : (t : ℕ) → emit-lts.Need-emit-requires-3 (claims t) (given t) emit.Post
-emit-requires-3 t c κs =
-    (omega (arith, seqn-operands (seqn t (c .before .before)) .left-below, c .before .before .before .before .before .before .before .pre .0), seqn-left (c .before .before .before .before .before .before .before .pre .1) (seqn t (c .before .before)))
+  add-emit-3 : emit-lts.Need-add-emit-3 (claims t) (given t) emit.Post
+  add-emit-3 c =
+      let left = c .before .before .before in
+      let arm = left .before .before .before in
+      omega (arith, here (arm .before .before) .1 .short, catch-operands (said (arm .before .before) (arm .left3 .given .1)) .length, left .emit5 .ensures .after)
 
-place-requires-4 : (t : ℕ) → emit-lts.Need-place-requires-4 (claims t) (given t) emit.Post
-unfolding targetOf
-place-requires-4 t c κs = (seqn-spot (c .before .before .before .before .before .before .before .before .before .before .before .pre .1) (seqn t (c .before .before .before .before .before .before)) (c .before .before .before .emit3 .ensures), omega arith)
+  emit-requires-6 : emit-lts.Need-emit-requires-6 (claims t) (given t) emit.Post
+  emit-requires-6 c κs =
+      let left = c .before .before .before in
+      let arm = left .before .before .before in
+      catch-right (here (arm .before .before)) (said (arm .before .before) (arm .left3 .given .1)) (left .emit5 .ensures)
 
-add-emit : (t : ℕ) → emit-lts.Need-add-emit (claims t) (given t) emit.Post
-add-emit t c = omega (arith, seqn-operands (seqn t (c .before .before .before .before .before .before .before .before .before .before)) .length, c .before .before .before .before .before .before .before .before .before .before .before .before .before .before .before .pre .1 .short, c .before .before .before .before .before .before .before .emit3 .ensures .after)
+  add-t50 : emit-lts.Need-add-t50 (claims t) (given t) emit.Post
+  add-t50 c =
+      let right = c .before .before .before in
+      let left = right .before .before .before .before in
+      let arm = left .before .before .before in
+      omega (arith, here (arm .before .before) .1 .short, catch-operands (said (arm .before .before) (arm .left3 .given .1)) .length, left .emit5 .ensures .after)
 
-emit-requires-4 : (t : ℕ) → emit-lts.Need-emit-requires-4 (claims t) (given t) emit.Post
-emit-requires-4 t c κs =
-    (omega (arith, seqn-operands (seqn t (c .before .before .before .before .before .before .before .before .before .before)) .right-below, c .before .before .before .before .before .before .before .before .before .before .before .before .before .before .before .pre .0), seqn-right (c .before .before .before .before .before .before .before .before .before .before .before .before .before .before .before .pre .1) (seqn t (c .before .before .before .before .before .before .before .before .before .before)) (c .before .before .before .before .before .before .before .emit3 .ensures) (c .before .before .before .place4 .ensures))
+  place-requires-5 : emit-lts.Need-place-requires-5 (claims t) (given t) emit.Post
+  place-requires-5 c κs =
+      let right = c .before .before .before in
+      let left = right .before .before .before .before in
+      let arm = left .before .before .before in
+      catch-mark (here (arm .before .before)) (said (arm .before .before) (arm .left3 .given .1)) (left .emit5 .ensures) (right .emit6 .ensures)
 
-enum-known-left-3 : (t : ℕ) → emit-lts.Need-enum-known-left-3 (claims t) (given t) emit.Post
-enum-known-left-3 t c = search needs
+  place-requires-6 : emit-lts.Need-place-requires-6 (claims t) (given t) emit.Post
+  place-requires-6 c κs =
+      let mark = c .before .before .before in
+      let right = mark .before .before .before .before in
+      let left = right .before .before .before .before in
+      let arm = left .before .before .before in
+      catch-unmark (here (arm .before .before)) (said (arm .before .before) (arm .left3 .given .1)) (left .emit5 .ensures) (right .emit6 .ensures) (mark .place5 .ensures)
 
-add-emit-2 : (t : ℕ) → emit-lts.Need-add-emit-2 (claims t) (given t) emit.Post
-add-emit-2 t c = omega (arith, c .before .before .before .before .before .before .before .pre .1 .short)
+  enum-known-left-4 : emit-lts.Need-enum-known-left-4 (claims t) (given t) emit.Post
+  enum-known-left-4 c = search needs
 
-emit-requires-5 : (t : ℕ) → emit-lts.Need-emit-requires-5 (claims t) (given t) emit.Post
-emit-requires-5 t c κs =
-    (omega (arith, catch-operands (catch t (c .before .before)) .left-below, c .before .before .before .before .before .before .before .pre .0), catch-left (c .before .before .before .before .before .before .before .pre .1) (catch t (c .before .before)))
+  place-requires-7 : emit-lts.Need-place-requires-7 (claims t) (given t) emit.Post
+  place-requires-7 c κs =
+      let arm = c .before .before in
+      scope-set (here (arm .before .before)) (block-operands (said (arm .before .before) (arm .left4 .given .1))) _
 
-add-emit-3 : (t : ℕ) → emit-lts.Need-add-emit-3 (claims t) (given t) emit.Post
-add-emit-3 t c = omega (arith, catch-operands (catch t (c .before .before .before .before .before .before)) .length, c .before .before .before .before .before .before .before .before .before .before .before .pre .1 .short, c .before .before .before .emit5 .ensures .after)
+  add-emit-4 : emit-lts.Need-add-emit-4 (claims t) (given t) emit.Post
+  add-emit-4 c =
+      let set = c .before .before .before in
+      let arm = set .before .before .before in
+      omega (arith, here (arm .before .before) .1 .short)
 
-emit-requires-6 : (t : ℕ) → emit-lts.Need-emit-requires-6 (claims t) (given t) emit.Post
-emit-requires-6 t c κs =
-    (omega (arith, catch-operands (catch t (c .before .before .before .before .before .before)) .right-below, c .before .before .before .before .before .before .before .before .before .before .before .pre .0), catch-right (c .before .before .before .before .before .before .before .before .before .before .before .pre .1) (catch t (c .before .before .before .before .before .before)) (c .before .before .before .emit5 .ensures))
+  emit-requires-7 : emit-lts.Need-emit-requires-7 (claims t) (given t) emit.Post
+  emit-requires-7 c κs =
+      let set = c .before .before .before in
+      let arm = set .before .before .before in
+      scope-left (here (arm .before .before)) (block-operands (said (arm .before .before) (arm .left4 .given .1))) (set .place7 .ensures)
 
-add-t50 : (t : ℕ) → emit-lts.Need-add-t50 (claims t) (given t) emit.Post
-add-t50 t c = omega (arith, catch-operands (catch t (c .before .before .before .before .before .before .before .before .before .before)) .length, c .before .before .before .before .before .before .before .before .before .before .before .before .before .before .before .pre .1 .short, c .before .before .before .before .before .before .before .emit5 .ensures .after)
+  place-requires-8 : emit-lts.Need-place-requires-8 (claims t) (given t) emit.Post
+  place-requires-8 c κs =
+      let left = c .before .before .before in
+      let set = left .before .before .before .before in
+      let arm = set .before .before .before in
+      scope-reset (here (arm .before .before)) (block-operands (said (arm .before .before) (arm .left4 .given .1))) (set .place7 .ensures) (left .emit7 .ensures)
 
-place-requires-5 : (t : ℕ) → emit-lts.Need-place-requires-5 (claims t) (given t) emit.Post
-unfolding targetOf
-place-requires-5 t c κs =
-    (catch-mark (c .before .before .before .before .before .before .before .before .before .before .before .before .before .before .before .pre .1) (catch t (c .before .before .before .before .before .before .before .before .before .before)) (c .before .before .before .before .before .before .before .emit5 .ensures) (c .before .before .before .emit6 .ensures), omega (arith, catch-operands (catch t (c .before .before .before .before .before .before .before .before .before .before)) .length, c .before .before .before .before .before .before .before .before .before .before .before .before .before .before .before .pre .1 .short, c .before .before .before .before .before .before .before .emit5 .ensures .after))
+  add-result-4 : emit-lts.Need-add-result-4 (claims t) (given t) emit.Post
+  add-result-4 c =
+      let reset = c .before .before in
+      let left = reset .before .before .before .before in
+      let set = left .before .before .before .before in
+      let arm = set .before .before .before in
+      omega (arith, here (arm .before .before) .1 .short, block-emitted (said (arm .before .before) (arm .left4 .given .1)) (set .place7 .ensures) (left .emit7 .ensures) (reset .place8 .ensures) .after)
 
-place-requires-6 : (t : ℕ) → emit-lts.Need-place-requires-6 (claims t) (given t) emit.Post
-unfolding targetOf
-place-requires-6 t c κs =
-    (catch-unmark (c .before .before .before .before .before .before .before .before .before .before .before .before .before .before .before .before .before .before .before .pre .1) (catch t (c .before .before .before .before .before .before .before .before .before .before .before .before .before .before)) (c .before .before .before .before .before .before .before .before .before .before .before .emit5 .ensures) (c .before .before .before .before .before .before .before .emit6 .ensures) (c .before .before .before .place5 .ensures), omega (arith, catch-operands (catch t (c .before .before .before .before .before .before .before .before .before .before .before .before .before .before)) .length, c .before .before .before .before .before .before .before .before .before .before .before .before .before .before .before .before .before .before .before .pre .1 .short, c .before .before .before .before .before .before .before .before .before .before .before .emit5 .ensures .after, c .before .before .before .before .before .before .before .emit6 .ensures .after))
+  enum-known-left-5 : emit-lts.Need-enum-known-left-5 (claims t) (given t) emit.Post
+  enum-known-left-5 c = search needs
 
-enum-known-left-4 : (t : ℕ) → emit-lts.Need-enum-known-left-4 (claims t) (given t) emit.Post
-enum-known-left-4 t c = search needs
+  place-requires-9 : emit-lts.Need-place-requires-9 (claims t) (given t) emit.Post
+  place-requires-9 c κs =
+      let arm = c .before .before in
+      scope-set (here (arm .before .before)) (unblock-operands (said (arm .before .before) (arm .left5 .given .1))) _
 
-place-requires-7 : (t : ℕ) → emit-lts.Need-place-requires-7 (claims t) (given t) emit.Post
-unfolding targetOf
-place-requires-7 t c κs = (scope-set (c .before .before .before .before .before .before .before .pre .1) (block-operands (block t (c .before .before))), omega arith)
+  add-emit-5 : emit-lts.Need-add-emit-5 (claims t) (given t) emit.Post
+  add-emit-5 c =
+      let set = c .before .before .before in
+      let arm = set .before .before .before in
+      omega (arith, here (arm .before .before) .1 .short)
 
-add-emit-4 : (t : ℕ) → emit-lts.Need-add-emit-4 (claims t) (given t) emit.Post
-add-emit-4 t c = omega (arith, c .before .before .before .before .before .before .before .before .before .before .before .pre .1 .short)
+  emit-requires-8 : emit-lts.Need-emit-requires-8 (claims t) (given t) emit.Post
+  emit-requires-8 c κs =
+      let set = c .before .before .before in
+      let arm = set .before .before .before in
+      scope-left (here (arm .before .before)) (unblock-operands (said (arm .before .before) (arm .left5 .given .1))) (set .place9 .ensures)
 
-emit-requires-7 : (t : ℕ) → emit-lts.Need-emit-requires-7 (claims t) (given t) emit.Post
-emit-requires-7 t c κs =
-    (omega (arith, block-operands (block t (c .before .before .before .before .before .before)) .left-below, c .before .before .before .before .before .before .before .before .before .before .before .pre .0), scope-left (c .before .before .before .before .before .before .before .before .before .before .before .pre .1) (block-operands (block t (c .before .before .before .before .before .before))) (c .before .before .before .place7 .ensures))
+  place-requires-10 : emit-lts.Need-place-requires-10 (claims t) (given t) emit.Post
+  place-requires-10 c κs =
+      let left = c .before .before .before in
+      let set = left .before .before .before .before in
+      let arm = set .before .before .before in
+      scope-reset (here (arm .before .before)) (unblock-operands (said (arm .before .before) (arm .left5 .given .1))) (set .place9 .ensures) (left .emit8 .ensures)
 
-place-requires-8 : (t : ℕ) → emit-lts.Need-place-requires-8 (claims t) (given t) emit.Post
-unfolding targetOf
-place-requires-8 t c κs = (scope-reset (c .before .before .before .before .before .before .before .before .before .before .before .before .before .before .before .pre .1) (block-operands (block t (c .before .before .before .before .before .before .before .before .before .before))) (c .before .before .before .before .before .before .before .place7 .ensures) (c .before .before .before .emit7 .ensures), omega arith)
+  add-result-5 : emit-lts.Need-add-result-5 (claims t) (given t) emit.Post
+  add-result-5 c =
+      let reset = c .before .before in
+      let left = reset .before .before .before .before in
+      let set = left .before .before .before .before in
+      let arm = set .before .before .before in
+      omega (arith, here (arm .before .before) .1 .short, unblock-emitted (said (arm .before .before) (arm .left5 .given .1)) (set .place9 .ensures) (left .emit8 .ensures) (reset .place10 .ensures) .after)
 
-add-result-4 : (t : ℕ) → emit-lts.Need-add-result-4 (claims t) (given t) emit.Post
-add-result-4 t c = omega (arith, block-operands (block t (c .before .before .before .before .before .before .before .before .before .before .before .before .before)) .length, c .before .before .before .before .before .before .before .before .before .before .before .before .before .before .before .before .before .before .pre .1 .short, c .before .before .before .before .before .before .emit7 .ensures .after)
+  returns : emit-lts.Need-returns (claims t) (given t) emit.Post
+  returns c =
+      let push = c .before .before in
+      let arm = push .before .before .before in
+      let fits : SFits w32 (arm .n .given .0 .0) = record { sfits = push .before .before .known-told .given .0 .1 } in
+      val-emitted (here (arm .before .before)) (said (arm .before .before) (arm .n .given .1)) (rw (toZ-ofZ fits) at (push .place .ensures))
 
-enum-known-left-5 : (t : ℕ) → emit-lts.Need-enum-known-left-5 (claims t) (given t) emit.Post
-enum-known-left-5 t c = search needs
+  same-length : emit-lts.Need-same-length (claims t) (given t) emit.Post
+  same-length c = emitted-length (returns c)
 
-place-requires-9 : (t : ℕ) → emit-lts.Need-place-requires-9 (claims t) (given t) emit.Post
-unfolding targetOf
-place-requires-9 t c κs = (scope-set (c .before .before .before .before .before .before .before .pre .1) (unblock-operands (unblock t (c .before .before))), omega arith)
+  returns-2 : emit-lts.Need-returns-2 (claims t) (given t) emit.Post
+  returns-2 c =
+      let throw = c .before .before in
+      let arm = throw .before .before in
+      throw-emitted (here (arm .before .before)) (said (arm .before .before) (arm .enum-told .given .1)) (throw .place2 .ensures)
 
-add-emit-5 : (t : ℕ) → emit-lts.Need-add-emit-5 (claims t) (given t) emit.Post
-add-emit-5 t c = omega (arith, c .before .before .before .before .before .before .before .before .before .before .before .pre .1 .short)
+  same-length-2 : emit-lts.Need-same-length-2 (claims t) (given t) emit.Post
+  same-length-2 c = emitted-length (returns-2 c)
 
-emit-requires-8 : (t : ℕ) → emit-lts.Need-emit-requires-8 (claims t) (given t) emit.Post
-emit-requires-8 t c κs =
-    (omega (arith, unblock-operands (unblock t (c .before .before .before .before .before .before)) .left-below, c .before .before .before .before .before .before .before .before .before .before .before .pre .0), scope-left (c .before .before .before .before .before .before .before .before .before .before .before .pre .1) (unblock-operands (unblock t (c .before .before .before .before .before .before))) (c .before .before .before .place9 .ensures))
+  returns-3 : emit-lts.Need-returns-3 (claims t) (given t) emit.Post
+  returns-3 c =
+      let add = c .before .before in
+      let right = add .before .before .before .before in
+      let left = right .before .before .before .before in
+      let arm = left .before .before .before in
+      add-emitted (here (arm .before .before)) (said (arm .before .before) (arm .left .given .1)) (left .emit .ensures) (right .emit2 .ensures) (add .place3 .ensures)
 
-place-requires-10 : (t : ℕ) → emit-lts.Need-place-requires-10 (claims t) (given t) emit.Post
-unfolding targetOf
-place-requires-10 t c κs = (scope-reset (c .before .before .before .before .before .before .before .before .before .before .before .before .before .before .before .pre .1) (unblock-operands (unblock t (c .before .before .before .before .before .before .before .before .before .before))) (c .before .before .before .before .before .before .before .place9 .ensures) (c .before .before .before .emit8 .ensures), omega arith)
+  same-length-3 : emit-lts.Need-same-length-3 (claims t) (given t) emit.Post
+  same-length-3 c = emitted-length (returns-3 c)
 
-add-result-5 : (t : ℕ) → emit-lts.Need-add-result-5 (claims t) (given t) emit.Post
-add-result-5 t c = omega (arith, unblock-operands (unblock t (c .before .before .before .before .before .before .before .before .before .before .before .before .before)) .length, c .before .before .before .before .before .before .before .before .before .before .before .before .before .before .before .before .before .before .pre .1 .short, c .before .before .before .before .before .before .emit8 .ensures .after)
+  returns-4 : emit-lts.Need-returns-4 (claims t) (given t) emit.Post
+  returns-4 c =
+      let right = c .before .before in
+      let pop = right .before .before .before .before in
+      let left = pop .before .before .before .before in
+      let arm = left .before .before .before in
+      seqn-emitted (here (arm .before .before)) (said (arm .before .before) (arm .left2 .given .1)) (left .emit3 .ensures) (pop .place4 .ensures) (right .emit4 .ensures)
 
-returns : (t : ℕ) → emit-lts.Need-returns (claims t) (given t) emit.Post
-returns t c =
-    let fits : SFits w32 (c .before .before .before .before .before .n .given .0 .0) = record { sfits = c .before .before .before .before .known-told .given .0 .1 } in
-    val-emitted (c .before .before .before .before .before .before .before .before .before .before .pre .1) (val t (c .before .before .before .before .before)) (rw (toZ-ofZ fits) at (c .before .before .place .ensures))
+  same-length-4 : emit-lts.Need-same-length-4 (claims t) (given t) emit.Post
+  same-length-4 c = emitted-length (returns-4 c)
 
-same-length : (t : ℕ) → emit-lts.Need-same-length (claims t) (given t) emit.Post
-same-length t c = emitted-length (returns t c)
+  returns-5 : emit-lts.Need-returns-5 (claims t) (given t) emit.Post
+  returns-5 c =
+      let unmark = c .before .before in
+      let mark = unmark .before .before .before .before in
+      let right = mark .before .before .before .before in
+      let left = right .before .before .before .before in
+      let arm = left .before .before .before in
+      catch-emitted (here (arm .before .before)) (said (arm .before .before) (arm .left3 .given .1)) (left .emit5 .ensures) (right .emit6 .ensures) (mark .place5 .ensures) (unmark .place6 .ensures)
 
-returns-2 : (t : ℕ) → emit-lts.Need-returns-2 (claims t) (given t) emit.Post
-returns-2 t c = throw-emitted (c .before .before .before .before .before .before .before .before .before .pre .1) (throw t (c .before .before .before .before)) (c .before .before .place2 .ensures)
+  same-length-5 : emit-lts.Need-same-length-5 (claims t) (given t) emit.Post
+  same-length-5 c = emitted-length (returns-5 c)
 
-same-length-2 : (t : ℕ) → emit-lts.Need-same-length-2 (claims t) (given t) emit.Post
-same-length-2 t c = emitted-length (returns-2 t c)
+  returns-6 : emit-lts.Need-returns-6 (claims t) (given t) emit.Post
+  returns-6 c =
+      let reset = c .before .before in
+      let left = reset .before .before .before .before in
+      let set = left .before .before .before .before in
+      let arm = set .before .before .before in
+      block-emitted (said (arm .before .before) (arm .left4 .given .1)) (set .place7 .ensures) (left .emit7 .ensures) (reset .place8 .ensures)
 
-returns-3 : (t : ℕ) → emit-lts.Need-returns-3 (claims t) (given t) emit.Post
-returns-3 t c = add-emitted (c .before .before .before .before .before .before .before .before .before .before .before .before .before .before .before .before .before .before .pre .1) (add t (c .before .before .before .before .before .before .before .before .before .before .before .before .before)) (c .before .before .before .before .before .before .before .before .before .before .emit .ensures) (c .before .before .before .before .before .before .emit2 .ensures) (c .before .before .place3 .ensures)
+  same-length-6 : emit-lts.Need-same-length-6 (claims t) (given t) emit.Post
+  same-length-6 c = emitted-length (returns-6 c)
 
-same-length-3 : (t : ℕ) → emit-lts.Need-same-length-3 (claims t) (given t) emit.Post
-same-length-3 t c = emitted-length (returns-3 t c)
+  returns-7 : emit-lts.Need-returns-7 (claims t) (given t) emit.Post
+  returns-7 c =
+      let reset = c .before .before in
+      let left = reset .before .before .before .before in
+      let set = left .before .before .before .before in
+      let arm = set .before .before .before in
+      unblock-emitted (said (arm .before .before) (arm .left5 .given .1)) (set .place9 .ensures) (left .emit8 .ensures) (reset .place10 .ensures)
 
-returns-4 : (t : ℕ) → emit-lts.Need-returns-4 (claims t) (given t) emit.Post
-returns-4 t c = seqn-emitted (c .before .before .before .before .before .before .before .before .before .before .before .before .before .before .before .before .before .before .pre .1) (seqn t (c .before .before .before .before .before .before .before .before .before .before .before .before .before)) (c .before .before .before .before .before .before .before .before .before .before .emit3 .ensures) (c .before .before .before .before .before .before .place4 .ensures) (c .before .before .emit4 .ensures)
-
-same-length-4 : (t : ℕ) → emit-lts.Need-same-length-4 (claims t) (given t) emit.Post
-same-length-4 t c = emitted-length (returns-4 t c)
-
-returns-5 : (t : ℕ) → emit-lts.Need-returns-5 (claims t) (given t) emit.Post
-returns-5 t c = catch-emitted (c .before .before .before .before .before .before .before .before .before .before .before .before .before .before .before .before .before .before .before .before .before .before .pre .1) (catch t (c .before .before .before .before .before .before .before .before .before .before .before .before .before .before .before .before .before)) (c .before .before .before .before .before .before .before .before .before .before .before .before .before .before .emit5 .ensures) (c .before .before .before .before .before .before .before .before .before .before .emit6 .ensures) (c .before .before .before .before .before .before .place5 .ensures) (c .before .before .place6 .ensures)
-
-same-length-5 : (t : ℕ) → emit-lts.Need-same-length-5 (claims t) (given t) emit.Post
-same-length-5 t c = emitted-length (returns-5 t c)
-
-returns-6 : (t : ℕ) → emit-lts.Need-returns-6 (claims t) (given t) emit.Post
-returns-6 t c = block-emitted (block t (c .before .before .before .before .before .before .before .before .before .before .before .before .before)) (c .before .before .before .before .before .before .before .before .before .before .place7 .ensures) (c .before .before .before .before .before .before .emit7 .ensures) (c .before .before .place8 .ensures)
-
-same-length-6 : (t : ℕ) → emit-lts.Need-same-length-6 (claims t) (given t) emit.Post
-same-length-6 t c = emitted-length (returns-6 t c)
-
-returns-7 : (t : ℕ) → emit-lts.Need-returns-7 (claims t) (given t) emit.Post
-returns-7 t c = unblock-emitted (unblock t (c .before .before .before .before .before .before .before .before .before .before .before .before .before)) (c .before .before .before .before .before .before .before .before .before .before .place9 .ensures) (c .before .before .before .before .before .before .emit8 .ensures) (c .before .before .place10 .ensures)
-
-same-length-7 : (t : ℕ) → emit-lts.Need-same-length-7 (claims t) (given t) emit.Post
-same-length-7 t c = emitted-length (returns-7 t c)
+  same-length-7 : emit-lts.Need-same-length-7 (claims t) (given t) emit.Post
+  same-length-7 c = emitted-length (returns-7 c)
 
 pub +emit-spec : {M : Type 1} → statement M
-+emit-spec = close μ-emit λ t. emit-lts.spec (claims t) (given t)
-    emit.Post
++emit-spec =
+    close μ-emit λ t. emit-lts.spec (claims t) (given t) emit.Post
     (at-requires t)
     (enum-known-n t)
     (place-requires t)

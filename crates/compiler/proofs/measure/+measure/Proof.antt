@@ -1,16 +1,20 @@
--- The proof of the cycle of calls {measure}. The measure is the node number, which falls at each call. Assumes nothing.
+-- `measure` meets its contract, kind by kind, since an operand's number is below its node's: the number is the measure.
+-- Assumes nothing.
 use Prim.Native.Nat.{ℕ, _<_}
 use native.Mathlib.Omega.{arith}
 use borrow.Author.Needs.{needs}
-use mathlib.Core.Path.{sym, _∙_}
 use borrow.Fn.Kinds.{In}
 use borrow.Fn.PlainCycle.{Measures, is, falls, and}
+use mathlib.Core.Path.{_≡_, sym}
+use Rattle.rules.specs.declared.Node.{Node}
+use Rattle.table.specs.Acceptance.{Says}
+use Rattle.table.proofs.Acceptance.{record-inside, says}
+use Rattle.table.proofs.node.at.Reads as at-reads
+use Rattle.compiler.specs.Walking.{Measurable}
+use Rattle.compiler.proofs.Operands.{val-length, throw-length, add-operands, seqn-operands, catch-operands, block-operands, unblock-operands, two-measurable, one-measurable}
 use Rattle.compiler.proofs.measure.measure.Reads as measure
 use Rattle.compiler.proofs.measure.measure.Kinds as measure-kinds
 use Rattle.compiler.proofs.measure.+measure.Lts-measure as measure-lts
-use Rattle.table.proofs.node.at.Reads as at-reads
-use Rattle.table.proofs.Acceptance.{record-inside, says}
-use Rattle.compiler.proofs.Operands.{Two, One, val-length, throw-length, add-operands, seqn-operands, catch-operands, block-operands, unblock-operands, measure-left, measure-right, measure-one}
 use Rattle.compiler.proofs.measure.+measure.{statement}
 use Rattle.compiler.proofs.measure.+measure.Tie.{close}
 
@@ -26,151 +30,163 @@ asked t = and 1 measure-kinds.ps (falls 1 measure-kinds.ps _<_ μ-measure t) mea
 abbrev claims : ℕ → measure-lts.Claims
 claims t = (at-reads.Asked, at-reads.Learnt, asked t, measure.Post)
 
--- ---- what the node says
+module _ (t : ℕ) where
+  -- what is given, and what the node that was read says
+  here : (c : measure-lts.After-at (claims t) (given t) measure.Post)
+      → (c .before .before .args .j ≡ t) × Measurable (c .before .before .args .table .now) (c .before .before .args .j)
+  here c = c .before .before .pre
 
-add : (t : ℕ) (c : measure-lts.After-left (claims t) (given t) measure.Post) → Two (c .before .before .before .before .args .table .now) (c .before .before .before .before .args .j) (c .left .given .0 .0) (c .left .given .0 .1 .0) 1
-add t c =
-    let node = c .before .before .before .before .pre .1 in
-    add-operands (says (node .accepted) (node .within) (sym (c .left .given .1) ∙ c .before .before .at .ensures))
+  said : (c : measure-lts.After-at (claims t) (given t) measure.Post) {node : Node} → c .at .result ≡ node
+      → Says (c .before .before .args .table .now) (c .before .before .args .j) node
+  said c told = says (c .before .before .pre .1 .node) (c .at .ensures) told
 
-seqn : (t : ℕ) (c : measure-lts.After-left2 (claims t) (given t) measure.Post) → Two (c .before .before .before .before .args .table .now) (c .before .before .before .before .args .j) (c .left2 .given .0 .0) (c .left2 .given .0 .1 .0) 1
-seqn t c =
-    let node = c .before .before .before .before .pre .1 in
-    seqn-operands (says (node .accepted) (node .within) (sym (c .left2 .given .1) ∙ c .before .before .at .ensures))
+  at-requires : measure-lts.Need-at-requires (claims t) (given t) measure.Post
+  at-requires c κs = record-inside (c .before .pre .1 .node)
 
-catch : (t : ℕ) (c : measure-lts.After-left3 (claims t) (given t) measure.Post) → Two (c .before .before .before .before .args .table .now) (c .before .before .before .before .args .j) (c .left3 .given .0 .0) (c .left3 .given .0 .1 .0) 2
-catch t c =
-    let node = c .before .before .before .before .pre .1 in
-    catch-operands (says (node .accepted) (node .within) (sym (c .left3 .given .1) ∙ c .before .before .at .ensures))
+  enum-told : measure-lts.Need-enum-told (claims t) (given t) measure.Post
+  enum-told c = search needs
 
-block : (t : ℕ) (c : measure-lts.After-left4 (claims t) (given t) measure.Post) → One (c .before .before .before .before .args .table .now) (c .before .before .before .before .args .j) (c .left4 .given .0 .0) 2
-block t c =
-    let node = c .before .before .before .before .pre .1 in
-    block-operands (says (node .accepted) (node .within) (sym (c .left4 .given .1) ∙ c .before .before .at .ensures))
+  enum-told-2 : measure-lts.Need-enum-told-2 (claims t) (given t) measure.Post
+  enum-told-2 c = search needs
 
-unblock : (t : ℕ) (c : measure-lts.After-left5 (claims t) (given t) measure.Post) → One (c .before .before .before .before .args .table .now) (c .before .before .before .before .args .j) (c .left5 .given .0 .0) 2
-unblock t c =
-    let node = c .before .before .before .before .pre .1 in
-    unblock-operands (says (node .accepted) (node .within) (sym (c .left5 .given .1) ∙ c .before .before .at .ensures))
+  enum-known-left : measure-lts.Need-enum-known-left (claims t) (given t) measure.Post
+  enum-known-left c = search needs
 
--- ---- the needs
+  measure-requires : measure-lts.Need-measure-requires (claims t) (given t) measure.Post
+  measure-requires c κs =
+      let arm = c .before in
+      two-measurable (here (arm .before .before)) (add-operands (said (arm .before .before) (arm .left .given .1))) .0
 
-at-requires : (t : ℕ) → measure-lts.Need-at-requires (claims t) (given t) measure.Post
-at-requires t c κs = record-inside (c .before .pre .1 .accepted) (c .before .pre .1 .within)
+  measure-requires-2 : measure-lts.Need-measure-requires-2 (claims t) (given t) measure.Post
+  measure-requires-2 c κs =
+      let arm = c .before .before in
+      two-measurable (here (arm .before .before)) (add-operands (said (arm .before .before) (arm .left .given .1))) .1
 
-enum-told : (t : ℕ) → measure-lts.Need-enum-told (claims t) (given t) measure.Post
-enum-told t c = search needs
+  add-result : measure-lts.Need-add-result (claims t) (given t) measure.Post
+  add-result c =
+      let left = c .before in
+      let arm = left .before .before in
+      omega (arith, here (arm .before .before) .1 .short, add-operands (said (arm .before .before) (arm .left .given .1)) .length, left .measure .ensures, c .measure2 .ensures)
 
-enum-told-2 : (t : ℕ) → measure-lts.Need-enum-told-2 (claims t) (given t) measure.Post
-enum-told-2 t c = search needs
+  add-result-2 : measure-lts.Need-add-result-2 (claims t) (given t) measure.Post
+  add-result-2 c =
+      let left = c .before in
+      let arm = left .before .before in
+      omega (arith, here (arm .before .before) .1 .short, add-operands (said (arm .before .before) (arm .left .given .1)) .length, left .measure .ensures, c .measure2 .ensures)
 
-enum-known-left : (t : ℕ) → measure-lts.Need-enum-known-left (claims t) (given t) measure.Post
-enum-known-left t c = search needs
+  enum-known-left-2 : measure-lts.Need-enum-known-left-2 (claims t) (given t) measure.Post
+  enum-known-left-2 c = search needs
 
-measure-requires : (t : ℕ) → measure-lts.Need-measure-requires (claims t) (given t) measure.Post
-measure-requires t c κs =
-    let two = add t (c .before) in
-    (omega (arith, two .left-below, c .before .before .before .before .before .pre .0), measure-left (c .before .before .before .before .before .pre .1) two)
+  measure-requires-3 : measure-lts.Need-measure-requires-3 (claims t) (given t) measure.Post
+  measure-requires-3 c κs =
+      let arm = c .before in
+      two-measurable (here (arm .before .before)) (seqn-operands (said (arm .before .before) (arm .left2 .given .1))) .0
 
-measure-requires-2 : (t : ℕ) → measure-lts.Need-measure-requires-2 (claims t) (given t) measure.Post
-measure-requires-2 t c κs =
-    let two = add t (c .before .before) in
-    (omega (arith, two .right-below, c .before .before .before .before .before .before .pre .0), measure-right (c .before .before .before .before .before .before .pre .1) two)
+  measure-requires-4 : measure-lts.Need-measure-requires-4 (claims t) (given t) measure.Post
+  measure-requires-4 c κs =
+      let arm = c .before .before in
+      two-measurable (here (arm .before .before)) (seqn-operands (said (arm .before .before) (arm .left2 .given .1))) .1
 
-add-result : (t : ℕ) → measure-lts.Need-add-result (claims t) (given t) measure.Post
-add-result t c = omega (arith, add t (c .before .before .before) .length, c .before .before .before .before .before .before .before .pre .1 .short, c .before .measure .ensures, c .measure2 .ensures)
+  add-result-3 : measure-lts.Need-add-result-3 (claims t) (given t) measure.Post
+  add-result-3 c =
+      let left = c .before in
+      let arm = left .before .before in
+      omega (arith, here (arm .before .before) .1 .short, seqn-operands (said (arm .before .before) (arm .left2 .given .1)) .length, left .measure3 .ensures, c .measure4 .ensures)
 
-add-result-2 : (t : ℕ) → measure-lts.Need-add-result-2 (claims t) (given t) measure.Post
-add-result-2 t c = omega (arith, add t (c .before .before .before) .length, c .before .before .before .before .before .before .before .pre .1 .short, c .before .measure .ensures, c .measure2 .ensures)
+  add-result-4 : measure-lts.Need-add-result-4 (claims t) (given t) measure.Post
+  add-result-4 c =
+      let left = c .before in
+      let arm = left .before .before in
+      omega (arith, here (arm .before .before) .1 .short, seqn-operands (said (arm .before .before) (arm .left2 .given .1)) .length, left .measure3 .ensures, c .measure4 .ensures)
 
-enum-known-left-2 : (t : ℕ) → measure-lts.Need-enum-known-left-2 (claims t) (given t) measure.Post
-enum-known-left-2 t c = search needs
+  enum-known-left-3 : measure-lts.Need-enum-known-left-3 (claims t) (given t) measure.Post
+  enum-known-left-3 c = search needs
 
-measure-requires-3 : (t : ℕ) → measure-lts.Need-measure-requires-3 (claims t) (given t) measure.Post
-measure-requires-3 t c κs =
-    let two = seqn t (c .before) in
-    (omega (arith, two .left-below, c .before .before .before .before .before .pre .0), measure-left (c .before .before .before .before .before .pre .1) two)
+  measure-requires-5 : measure-lts.Need-measure-requires-5 (claims t) (given t) measure.Post
+  measure-requires-5 c κs =
+      let arm = c .before in
+      two-measurable (here (arm .before .before)) (catch-operands (said (arm .before .before) (arm .left3 .given .1))) .0
 
-measure-requires-4 : (t : ℕ) → measure-lts.Need-measure-requires-4 (claims t) (given t) measure.Post
-measure-requires-4 t c κs =
-    let two = seqn t (c .before .before) in
-    (omega (arith, two .right-below, c .before .before .before .before .before .before .pre .0), measure-right (c .before .before .before .before .before .before .pre .1) two)
+  measure-requires-6 : measure-lts.Need-measure-requires-6 (claims t) (given t) measure.Post
+  measure-requires-6 c κs =
+      let arm = c .before .before in
+      two-measurable (here (arm .before .before)) (catch-operands (said (arm .before .before) (arm .left3 .given .1))) .1
 
-add-result-3 : (t : ℕ) → measure-lts.Need-add-result-3 (claims t) (given t) measure.Post
-add-result-3 t c = omega (arith, seqn t (c .before .before .before) .length, c .before .before .before .before .before .before .before .pre .1 .short, c .before .measure3 .ensures, c .measure4 .ensures)
+  add-result-5 : measure-lts.Need-add-result-5 (claims t) (given t) measure.Post
+  add-result-5 c =
+      let left = c .before in
+      let arm = left .before .before in
+      omega (arith, here (arm .before .before) .1 .short, catch-operands (said (arm .before .before) (arm .left3 .given .1)) .length, left .measure5 .ensures, c .measure6 .ensures)
 
-add-result-4 : (t : ℕ) → measure-lts.Need-add-result-4 (claims t) (given t) measure.Post
-add-result-4 t c = omega (arith, seqn t (c .before .before .before) .length, c .before .before .before .before .before .before .before .pre .1 .short, c .before .measure3 .ensures, c .measure4 .ensures)
+  add-result-6 : measure-lts.Need-add-result-6 (claims t) (given t) measure.Post
+  add-result-6 c =
+      let left = c .before in
+      let arm = left .before .before in
+      omega (arith, here (arm .before .before) .1 .short, catch-operands (said (arm .before .before) (arm .left3 .given .1)) .length, left .measure5 .ensures, c .measure6 .ensures)
 
-enum-known-left-3 : (t : ℕ) → measure-lts.Need-enum-known-left-3 (claims t) (given t) measure.Post
-enum-known-left-3 t c = search needs
+  enum-known-left-4 : measure-lts.Need-enum-known-left-4 (claims t) (given t) measure.Post
+  enum-known-left-4 c = search needs
 
-measure-requires-5 : (t : ℕ) → measure-lts.Need-measure-requires-5 (claims t) (given t) measure.Post
-measure-requires-5 t c κs =
-    let two = catch t (c .before) in
-    (omega (arith, two .left-below, c .before .before .before .before .before .pre .0), measure-left (c .before .before .before .before .before .pre .1) two)
+  measure-requires-7 : measure-lts.Need-measure-requires-7 (claims t) (given t) measure.Post
+  measure-requires-7 c κs =
+      let arm = c .before in
+      one-measurable (here (arm .before .before)) (block-operands (said (arm .before .before) (arm .left4 .given .1)))
 
-measure-requires-6 : (t : ℕ) → measure-lts.Need-measure-requires-6 (claims t) (given t) measure.Post
-measure-requires-6 t c κs =
-    let two = catch t (c .before .before) in
-    (omega (arith, two .right-below, c .before .before .before .before .before .before .pre .0), measure-right (c .before .before .before .before .before .before .pre .1) two)
+  add-result-7 : measure-lts.Need-add-result-7 (claims t) (given t) measure.Post
+  add-result-7 c =
+      let arm = c .before .before in
+      omega (arith, here (arm .before .before) .1 .short, block-operands (said (arm .before .before) (arm .left4 .given .1)) .length, c .measure7 .ensures)
 
-add-result-5 : (t : ℕ) → measure-lts.Need-add-result-5 (claims t) (given t) measure.Post
-add-result-5 t c = omega (arith, catch t (c .before .before .before) .length, c .before .before .before .before .before .before .before .pre .1 .short, c .before .measure5 .ensures, c .measure6 .ensures)
+  enum-known-left-5 : measure-lts.Need-enum-known-left-5 (claims t) (given t) measure.Post
+  enum-known-left-5 c = search needs
 
-add-result-6 : (t : ℕ) → measure-lts.Need-add-result-6 (claims t) (given t) measure.Post
-add-result-6 t c = omega (arith, catch t (c .before .before .before) .length, c .before .before .before .before .before .before .before .pre .1 .short, c .before .measure5 .ensures, c .measure6 .ensures)
+  measure-requires-8 : measure-lts.Need-measure-requires-8 (claims t) (given t) measure.Post
+  measure-requires-8 c κs =
+      let arm = c .before in
+      one-measurable (here (arm .before .before)) (unblock-operands (said (arm .before .before) (arm .left5 .given .1)))
 
-enum-known-left-4 : (t : ℕ) → measure-lts.Need-enum-known-left-4 (claims t) (given t) measure.Post
-enum-known-left-4 t c = search needs
+  add-result-8 : measure-lts.Need-add-result-8 (claims t) (given t) measure.Post
+  add-result-8 c =
+      let arm = c .before .before in
+      omega (arith, here (arm .before .before) .1 .short, unblock-operands (said (arm .before .before) (arm .left5 .given .1)) .length, c .measure8 .ensures)
 
-measure-requires-7 : (t : ℕ) → measure-lts.Need-measure-requires-7 (claims t) (given t) measure.Post
-measure-requires-7 t c κs =
-    let one = block t (c .before) in
-    (omega (arith, one .left-below, c .before .before .before .before .before .pre .0), measure-one (c .before .before .before .before .before .pre .1) one)
+  returns : measure-lts.Need-returns (claims t) (given t) measure.Post
+  returns c = sym (val-length (said (c .before .before) (c .enum-told .given .1)))
 
-add-result-7 : (t : ℕ) → measure-lts.Need-add-result-7 (claims t) (given t) measure.Post
-add-result-7 t c = omega (arith, block t (c .before .before) .length, c .before .before .before .before .before .before .pre .1 .short, c .measure7 .ensures)
+  returns-2 : measure-lts.Need-returns-2 (claims t) (given t) measure.Post
+  returns-2 c = sym (throw-length (said (c .before .before) (c .enum-told2 .given .1)))
 
-enum-known-left-5 : (t : ℕ) → measure-lts.Need-enum-known-left-5 (claims t) (given t) measure.Post
-enum-known-left-5 t c = search needs
+  returns-3 : measure-lts.Need-returns-3 (claims t) (given t) measure.Post
+  returns-3 c =
+      let left = c .before in
+      let arm = left .before .before in
+      omega (arith, add-operands (said (arm .before .before) (arm .left .given .1)) .length, left .measure .ensures, c .measure2 .ensures)
 
-measure-requires-8 : (t : ℕ) → measure-lts.Need-measure-requires-8 (claims t) (given t) measure.Post
-measure-requires-8 t c κs =
-    let one = unblock t (c .before) in
-    (omega (arith, one .left-below, c .before .before .before .before .before .pre .0), measure-one (c .before .before .before .before .before .pre .1) one)
+  returns-4 : measure-lts.Need-returns-4 (claims t) (given t) measure.Post
+  returns-4 c =
+      let left = c .before in
+      let arm = left .before .before in
+      omega (arith, seqn-operands (said (arm .before .before) (arm .left2 .given .1)) .length, left .measure3 .ensures, c .measure4 .ensures)
 
-add-result-8 : (t : ℕ) → measure-lts.Need-add-result-8 (claims t) (given t) measure.Post
-add-result-8 t c = omega (arith, unblock t (c .before .before) .length, c .before .before .before .before .before .before .pre .1 .short, c .measure8 .ensures)
+  returns-5 : measure-lts.Need-returns-5 (claims t) (given t) measure.Post
+  returns-5 c =
+      let left = c .before in
+      let arm = left .before .before in
+      omega (arith, catch-operands (said (arm .before .before) (arm .left3 .given .1)) .length, left .measure5 .ensures, c .measure6 .ensures)
 
-returns : (t : ℕ) → measure-lts.Need-returns (claims t) (given t) measure.Post
-returns t c =
-    let node = c .before .before .before .before .pre .1 in
-    sym (val-length (says (node .accepted) (node .within) (sym (c .enum-told .given .1) ∙ c .before .before .at .ensures)))
+  returns-6 : measure-lts.Need-returns-6 (claims t) (given t) measure.Post
+  returns-6 c =
+      let arm = c .before .before in
+      omega (arith, block-operands (said (arm .before .before) (arm .left4 .given .1)) .length, c .measure7 .ensures)
 
-returns-2 : (t : ℕ) → measure-lts.Need-returns-2 (claims t) (given t) measure.Post
-returns-2 t c =
-    let node = c .before .before .before .before .pre .1 in
-    sym (throw-length (says (node .accepted) (node .within) (sym (c .enum-told2 .given .1) ∙ c .before .before .at .ensures)))
-
-returns-3 : (t : ℕ) → measure-lts.Need-returns-3 (claims t) (given t) measure.Post
-returns-3 t c = omega (arith, add t (c .before .before .before) .length, c .before .measure .ensures, c .measure2 .ensures)
-
-returns-4 : (t : ℕ) → measure-lts.Need-returns-4 (claims t) (given t) measure.Post
-returns-4 t c = omega (arith, seqn t (c .before .before .before) .length, c .before .measure3 .ensures, c .measure4 .ensures)
-
-returns-5 : (t : ℕ) → measure-lts.Need-returns-5 (claims t) (given t) measure.Post
-returns-5 t c = omega (arith, catch t (c .before .before .before) .length, c .before .measure5 .ensures, c .measure6 .ensures)
-
-returns-6 : (t : ℕ) → measure-lts.Need-returns-6 (claims t) (given t) measure.Post
-returns-6 t c = omega (arith, block t (c .before .before) .length, c .measure7 .ensures)
-
-returns-7 : (t : ℕ) → measure-lts.Need-returns-7 (claims t) (given t) measure.Post
-returns-7 t c = omega (arith, unblock t (c .before .before) .length, c .measure8 .ensures)
+  returns-7 : measure-lts.Need-returns-7 (claims t) (given t) measure.Post
+  returns-7 c =
+      let arm = c .before .before in
+      omega (arith, unblock-operands (said (arm .before .before) (arm .left5 .given .1)) .length, c .measure8 .ensures)
 
 pub +measure-spec : {M : Type 1} → statement M
-+measure-spec = close μ-measure λ t. measure-lts.spec (claims t) (given t)
-    measure.Post
++measure-spec =
+    close μ-measure λ t. measure-lts.spec (claims t) (given t) measure.Post
     (at-requires t)
     (enum-told t)
     (enum-told-2 t)

@@ -1,6 +1,6 @@
 -- `compiler::place::number_of` meets its contract. Assumes nothing.
-use Rattle.rules.specs.Answers.{statusNumber}
 use borrow.Author.Needs.{needs}
+use Rattle.rules.specs.Answers.{statusNumber}
 use Rattle.compiler.proofs.place.number_of.Statement.{statement}
 use Rattle.compiler.proofs.place.number_of.Tie as tie
 

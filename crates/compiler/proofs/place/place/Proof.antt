@@ -1,12 +1,12 @@
 -- `compiler::place::place` meets its contract, instruction by instruction. Assumes nothing.
+use native.Mathlib.Omega.{arith}
+use borrow.Author.Needs.{needs}
+use mathlib.Core.Path.{_∙_}
 use mir.Syntax.{w32}
 use mir.Val.{SFits}
 use mir.Facts.{toZ-ofZ}
-use native.Mathlib.Omega.{arith}
-use mathlib.Core.Path.{_∙_}
 use Rattle.rules.specs.CodeBytes.{instructionBytes}
 use Rattle.compiler.specs.Walking.{targetOf}
-use borrow.Author.Needs.{needs}
 use Rattle.compiler.proofs.place.place.Statement.{statement}
 use Rattle.compiler.proofs.place.place.Tie as tie
 
@@ -45,7 +45,7 @@ enum-known-instruction-2 c = search needs
 
 cast-put : tie.Need-cast-put
 unfolding targetOf
-cast-put c = omega (arith, rw (c .before .before .instruction2 .given .1) at (c .before .before .before .before .before .pre .1))
+cast-put c = omega (arith, rw (c .before .before .instruction2 .given .1) at (c .before .before .before .before .before .pre .target))
 
 put-requires-5 : tie.Need-put-requires-5
 put-requires-5 c κs = search needs
@@ -55,7 +55,7 @@ enum-known-instruction-3 c = search needs
 
 cast-put-2 : tie.Need-cast-put-2
 unfolding targetOf
-cast-put-2 c = omega (arith, rw (c .before .before .instruction3 .given .1) at (c .before .before .before .before .before .pre .1))
+cast-put-2 c = omega (arith, rw (c .before .before .instruction3 .given .1) at (c .before .before .before .before .before .pre .target))
 
 put-requires-6 : tie.Need-put-requires-6
 put-requires-6 c κs = search needs

@@ -1,7 +1,7 @@
 -- `record::field::byte` meets its contract. Assumes nothing.
-use mathlib.Core.Path.{refl}
 use native.Mathlib.Omega.{arith}
 use borrow.Author.Needs.{needs}
+use mathlib.Core.Path.{refl}
 use Rattle.record.proofs.field.byte.Statement.{statement}
 use Rattle.record.proofs.field.byte.Tie as tie
 

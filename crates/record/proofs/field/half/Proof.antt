@@ -1,7 +1,7 @@
 -- `record::field::half` meets its contract. Assumes nothing.
 use native.Mathlib.Omega.{arith}
-use Rattle.rules.specs.Bytes.{halfAt}
 use borrow.Author.Needs.{needs}
+use Rattle.rules.specs.Bytes.{halfAt}
 use Rattle.record.proofs.field.half.Statement.{statement}
 use Rattle.record.proofs.field.half.Tie as tie
 

@@ -1,11 +1,11 @@
 -- `record::field::put` meets its contract: eight stores are the one run of stores. Assumes nothing.
-use mathlib.Core.Path.{_≡_}
 use Prim.Native.Nat.{suc, _+_}
 use native.Mathlib.Omega.{arith}
+use borrow.Author.Needs.{needs}
 use lib.ListN.{length-set}
+use mathlib.Core.Path.{_≡_}
 use Rattle.rules.specs.Bytes.{wordBytes}
 use Rattle.rules.specs.CodeBytes.{instructionRecord}
-use borrow.Author.Needs.{needs}
 use Rattle.record.proofs.field.put.Statement.{statement}
 use Rattle.record.proofs.field.put.Tie as tie
 

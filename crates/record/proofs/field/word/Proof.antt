@@ -1,6 +1,6 @@
 -- `record::field::word` meets its contract. Assumes nothing.
-use Rattle.rules.specs.Bytes.{wordAt}
 use borrow.Author.Needs.{needs}
+use Rattle.rules.specs.Bytes.{wordAt}
 use Rattle.record.proofs.field.word.Statement.{statement}
 use Rattle.record.proofs.field.word.Tie as tie
 

@@ -1,11 +1,11 @@
 -- `record::number::residue` meets its contract, in each half of the range. Assumes nothing.
-use mathlib.Core.Path.{_≡_, ap, sym, _∙_}
 use Prim.Native.Nat.{suc, _-_, _^_, _<_}
 use native.Mathlib.Omega.{arith}
 use lib.IntN.{pos, negsuc, _-ℤ_}
 use lib.Signed.{mag}
+use mathlib.Core.Path.{_≡_, ap, sym, _∙_}
 use mir.Syntax.{w32}
-use mir.Val.{Fits, toZ, ofZ}
+use mir.Val.{toZ, ofZ}
 use mir.Facts.{toZ-ofZ, toZ-pos}
 use Rattle.record.proofs.Signed.{residue-ofZ, below-zero, not-below-zero, minus-one-less-negsuc}
 use Rattle.record.proofs.number.residue.Statement.{statement}

@@ -1,11 +1,11 @@
 -- `record::number::signed` meets its contract: the upper half is -1 less what is left of it. Assumes nothing.
-use mathlib.Core.Path.{_≡_, ap, _∙_}
-use Prim.Native.Nat.{suc, _-_, _^_, _<_}
+use Prim.Native.Nat.{suc, _-_, _^_}
 use native.Mathlib.Omega.{arith}
 use borrow.Author.Needs.{needs}
 use borrow.Author.Tests.{le-ltb}
 use lib.Dec.{ltb}
 use lib.IntN.{negsuc, _-ℤ_}
+use mathlib.Core.Path.{_≡_, ap}
 use mathlib.Core.Bool.{false}
 use mir.Syntax.{w32}
 use mir.Val.{SFits, toZ}

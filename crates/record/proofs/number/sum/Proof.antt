@@ -1,16 +1,13 @@
 -- `record::number::sum` meets its contract: the wrapped sum of two residues is the residue of the sum. Assumes nothing.
-use mathlib.Core.Path.{_≡_}
 use Prim.Native.Nat.{_+_, _%_, _^_}
+use borrow.Author.Needs.{needs}
 use lib.IntN.{_+ℤ_}
-use Rattle.rules.specs.Number.{residue}
+use mathlib.Core.Path.{_≡_, ap, sym, _∙_}
 use mir.Syntax.{w32}
 use mir.Val.{SFits}
-use mathlib.Core.Path.{ap, sym, _∙_}
-use Prim.Native.Nat.{ℕ}
 use mir.Facts.{toZ-ofZ}
-use Rattle.rules.specs.Number.{signed, sum}
+use Rattle.rules.specs.Number.{residue, signed, sum}
 use Rattle.record.proofs.Signed.{residue-sum}
-use borrow.Author.Needs.{needs}
 use Rattle.record.proofs.number.sum.Statement.{statement}
 use Rattle.record.proofs.number.sum.Tie as tie
 

@@ -1,10 +1,9 @@
 -- `record::schedule::asks` meets its contract: past the end of the schedule the byte is 0. Assumes nothing.
 use native.Mathlib.Nat.{zero-div}
-use mathlib.Core.Path.{_≡_}
-use mathlib.Core.Path.{refl}
-use lib.ListN.{List·getD-eq-default}
-use Rattle.rules.specs.Schedule.{asks}
 use borrow.Author.Needs.{needs}
+use lib.ListN.{List·getD-eq-default}
+use mathlib.Core.Path.{refl}
+use Rattle.rules.specs.Schedule.{asks}
 use Rattle.record.proofs.schedule.asks.Statement.{statement}
 use Rattle.record.proofs.schedule.asks.Tie as tie
 

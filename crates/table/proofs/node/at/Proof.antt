@@ -1,11 +1,11 @@
 -- `table::node::at` meets its contract, kind by kind. Assumes nothing.
+use borrow.Author.Needs.{needs}
 use mathlib.Core.Path.{refl, sym, _∙_}
 use mir.Syntax.{w32}
 use mir.Val.{SFits}
 use mir.Facts.{toZ-ofZ}
 use Rattle.rules.specs.Table.{kinds, kindNumbered, nodeOf}
 use Rattle.table.proofs.Reading.{kind-at, kind-other, node-of-kind, node-of-no-kind}
-use borrow.Author.Needs.{needs}
 use Rattle.table.proofs.node.at.Statement.{statement}
 use Rattle.table.proofs.node.at.Tie as tie
 

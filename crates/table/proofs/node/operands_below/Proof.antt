@@ -1,8 +1,7 @@
 -- `table::node::operands_below` meets its contract, kind by kind. Assumes nothing.
-use mathlib.Core.Path.{refl}
+use borrow.Author.Needs.{needs}
 use Rattle.rules.specs.Table.{operandsOf, allBelow}
 use Rattle.table.proofs.Reading.{below-one, below-two, below-first}
-use borrow.Author.Needs.{needs}
 use Rattle.table.proofs.node.operands_below.Statement.{statement}
 use Rattle.table.proofs.node.operands_below.Tie as tie
 

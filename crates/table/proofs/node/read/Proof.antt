@@ -1,12 +1,11 @@
 -- `table::node::read` meets its contract: what is answered is by the first test that refuses. Assumes nothing.
 use Prim.Native.Nat.{_≤_}
 use native.Mathlib.Omega.{arith}
-use mathlib.Core.Logic.{⊎-elim}
-use mathlib.Core.Path.{_≡_, ap, sym, _∙_}
-use mathlib.Core.Bool.{true, false}
 use borrow.Author.Tests.{eq-eqb, ne-eqb, ltb-true, ltb-false}
-use Rattle.table.proofs.Reading.{Known, kind-known, kind-unknown, reads-kind, reads-unused, reads-operand, reads-sound}
 use borrow.Author.Needs.{needs}
+use mathlib.Core.Logic.{⊎-elim}
+use mathlib.Core.Path.{sym, _∙_}
+use Rattle.table.proofs.Reading.{Known, kind-known, kind-unknown, reads-kind, reads-unused, reads-operand, reads-sound}
 use Rattle.table.proofs.node.read.Statement.{statement}
 use Rattle.table.proofs.node.read.Tie as tie
 

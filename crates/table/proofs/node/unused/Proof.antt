@@ -1,9 +1,9 @@
 -- `table::node::unused` meets its contract, kind by kind. Assumes nothing.
-use mathlib.Core.Path.{refl, sym}
+use borrow.Author.Needs.{needs}
+use mathlib.Core.Path.{sym}
 use Rattle.rules.specs.Table.{kinds, kindNumbered}
 use Rattle.table.specs.Checking.{unusedZero}
 use Rattle.table.proofs.Reading.{kind-other, unused-val, unused-throw, unused-pair, unused-scope, unused-none}
-use borrow.Author.Needs.{needs}
 use Rattle.table.proofs.node.unused.Statement.{statement}
 use Rattle.table.proofs.node.unused.Tie as tie
 

@@ -1,14 +1,13 @@
 -- `table::uses::check` meets its contract. The invariant: each count before k is 1. Assumes nothing.
-use mathlib.Core.Path.{sym}
-use Rattle.table.proofs.Tally.{count-wrong, counts-right}
 use Prim.Native.Nat.{_-_, _≤_}
 use native.Mathlib.Omega.{arith}
-use borrow.Author.Tests.{eq-eqb, ne-eqb}
+use borrow.Author.Tests.{eq-eqb}
+use mathlib.Core.Path.{sym, _≡_, refl}
 use mathlib.Core.Option.{none}
-use mathlib.Core.Path.{_≡_, refl}
 use Rattle.rules.specs.Refusals.{unless, lowestRefusal}
-use Rattle.rules.proofs.Tests.{lowest-next, lowest-found}
-use Rattle.table.specs.Checking.{checkedBy, countTest}
+use Rattle.rules.proofs.Tests.{lowest-next}
+use Rattle.table.specs.Checking.{countTest}
+use Rattle.table.proofs.Tally.{count-wrong, counts-right}
 use Rattle.table.proofs.uses.check.Statement.{statement}
 use Rattle.table.proofs.uses.check.Tie as tie
 

@@ -1,8 +1,7 @@
 -- `table::uses::count` meets its contract, kind by kind. Assumes nothing.
-use mathlib.Core.Path.{_∙_}
+use borrow.Author.Needs.{needs}
 use Rattle.rules.specs.Table.{operandsOf}
 use Rattle.table.specs.Checking.{counted}
-use borrow.Author.Needs.{needs}
 use Rattle.table.proofs.uses.count.Statement.{statement}
 use Rattle.table.proofs.uses.count.Tie as tie
 

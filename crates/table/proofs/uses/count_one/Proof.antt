@@ -1,9 +1,9 @@
 -- `table::uses::count_one` meets its contract. Assumes nothing.
 use native.Mathlib.Omega.{arith}
+use borrow.Author.Needs.{needs}
 use mathlib.Core.Path.{refl}
 use Rattle.table.specs.Checking.{counted}
 use Rattle.table.proofs.Tally.{room-first}
-use borrow.Author.Needs.{needs}
 use Rattle.table.proofs.uses.count_one.Statement.{statement}
 use Rattle.table.proofs.uses.count_one.Tie as tie
 
