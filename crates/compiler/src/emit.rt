@@ -34,8 +34,9 @@ pub(crate) fn emit(table: &[u8], j: usize, code: &mut [u8], at: usize) -> usize
         }
         Node::Catch(left, right) => {
             let middle = emit(table, left, code, at + 1);
-            let end = emit(table, right, code, middle + 1);
-            place(code, at, Instruction::Mark(middle + 1));
+            let handler = middle + 1;
+            let end = emit(table, right, code, handler);
+            place(code, at, Instruction::Mark(handler));
             place(code, middle, Instruction::Unmark(end));
             end
         }

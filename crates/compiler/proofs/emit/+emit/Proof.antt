@@ -145,9 +145,9 @@ module _ (t : ℕ) where
       let arm = c .before .before in
       catch-left (here (arm .before .before)) (said (arm .before .before) (arm .left3 .given .1))
 
-  add-emit-3 : emit-lts.Need-add-emit-3 (claims t) (given t) emit.Post
-  add-emit-3 c =
-      let left = c .before .before .before in
+  add-handler : emit-lts.Need-add-handler (claims t) (given t) emit.Post
+  add-handler c =
+      let left = c .before .before in
       let arm = left .before .before .before in
       omega (arith, here (arm .before .before) .1 .short, catch-operands (said (arm .before .before) (arm .left3 .given .1)) .length, left .emit5 .ensures .after)
 
@@ -156,13 +156,6 @@ module _ (t : ℕ) where
       let left = c .before .before .before in
       let arm = left .before .before .before in
       catch-right (here (arm .before .before)) (said (arm .before .before) (arm .left3 .given .1)) (left .emit5 .ensures)
-
-  add-t50 : emit-lts.Need-add-t50 (claims t) (given t) emit.Post
-  add-t50 c =
-      let right = c .before .before .before in
-      let left = right .before .before .before .before in
-      let arm = left .before .before .before in
-      omega (arith, here (arm .before .before) .1 .short, catch-operands (said (arm .before .before) (arm .left3 .given .1)) .length, left .emit5 .ensures .after)
 
   place-requires-5 : emit-lts.Need-place-requires-5 (claims t) (given t) emit.Post
   place-requires-5 c κs =
@@ -187,8 +180,8 @@ module _ (t : ℕ) where
       let arm = c .before .before in
       scope-set (here (arm .before .before)) (block-operands (said (arm .before .before) (arm .left4 .given .1))) _
 
-  add-emit-4 : emit-lts.Need-add-emit-4 (claims t) (given t) emit.Post
-  add-emit-4 c =
+  add-emit-3 : emit-lts.Need-add-emit-3 (claims t) (given t) emit.Post
+  add-emit-3 c =
       let set = c .before .before .before in
       let arm = set .before .before .before in
       omega (arith, here (arm .before .before) .1 .short)
@@ -222,8 +215,8 @@ module _ (t : ℕ) where
       let arm = c .before .before in
       scope-set (here (arm .before .before)) (unblock-operands (said (arm .before .before) (arm .left5 .given .1))) _
 
-  add-emit-5 : emit-lts.Need-add-emit-5 (claims t) (given t) emit.Post
-  add-emit-5 c =
+  add-emit-4 : emit-lts.Need-add-emit-4 (claims t) (given t) emit.Post
+  add-emit-4 c =
       let set = c .before .before .before in
       let arm = set .before .before .before in
       omega (arith, here (arm .before .before) .1 .short)
@@ -347,20 +340,19 @@ pub +emit-spec : {M : Type 1} → statement M
     (enum-known-left-3 t)
     (add-emit-2 t)
     (emit-requires-5 t)
-    (add-emit-3 t)
+    (add-handler t)
     (emit-requires-6 t)
-    (add-t50 t)
     (place-requires-5 t)
     (place-requires-6 t)
     (enum-known-left-4 t)
     (place-requires-7 t)
-    (add-emit-4 t)
+    (add-emit-3 t)
     (emit-requires-7 t)
     (place-requires-8 t)
     (add-result-4 t)
     (enum-known-left-5 t)
     (place-requires-9 t)
-    (add-emit-5 t)
+    (add-emit-4 t)
     (emit-requires-8 t)
     (place-requires-10 t)
     (add-result-5 t)

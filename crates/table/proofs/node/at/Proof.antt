@@ -1,13 +1,21 @@
 -- `table::node::at` meets its contract, kind by kind. Assumes nothing.
+use Prim.Native.Nat.{ℕ, _*_}
 use borrow.Author.Needs.{needs}
-use mathlib.Core.Path.{refl, sym, _∙_}
+use mathlib.Core.Option.{some}
+use mathlib.Core.Path.{_≡_, refl, sym, _∙_}
 use mir.Syntax.{w32}
 use mir.Val.{SFits}
 use mir.Facts.{toZ-ofZ}
-use Rattle.rules.specs.Table.{kinds, kindNumbered, nodeOf}
+use Rattle.rules.specs.Table.{KindRow, kinds, kindNumbered, nodeOf, nodeAt}
 use Rattle.table.proofs.Reading.{kind-at, kind-other, node-of-kind, node-of-no-kind}
 use Rattle.table.proofs.node.at.Statement.{statement}
 use Rattle.table.proofs.node.at.Tie as tie
+
+-- the node, by the kind that was read
+kinded : (c : tie.After-byte) {kind : ℕ} {row : KindRow} → c .byte .result ≡ kind → kindNumbered kind ≡ some row
+    → nodeOf row (c .before .before .before .before .args .table .now) (8 * c .before .before .before .before .args .j)
+    ≡ nodeAt (c .before .before .before .before .args .table .now) (c .before .before .before .before .args .j)
+kinded c e found = sym (node-of-kind _ _ (kind-at _ _ (c .byte .ensures .0) e ∙ found))
 
 mul-base : tie.Need-mul-base
 mul-base c = search needs
@@ -39,51 +47,32 @@ signed-requires c κs = search needs
 returns : tie.Need-returns
 unfolding kinds kindNumbered nodeOf
 returns c =
-    let s = c .before .before .before .before .before .before .before .args in
     let fits : SFits w32 (c .signed .result) = record { sfits = c .signed .ok } in
-    rw (toZ-ofZ fits, c .signed .ensures, c .before .word .ensures)
-    (sym (node-of-kind (s .table .now) (s .j) (kind-at (s .table .now) (s .j) (c .before .before .before .byte .ensures .0) (c .before .before .match .keys1))))
+    rw (toZ-ofZ fits, c .signed .ensures, c .before .word .ensures) (kinded (c .before .before .before) (c .before .before .match .keys1) refl)
 
 returns-2 : tie.Need-returns-2
 unfolding kinds kindNumbered nodeOf
-returns-2 c =
-    let s = c .before .before .before .before .before .args in
-    sym (node-of-kind (s .table .now) (s .j) (kind-at (s .table .now) (s .j) (c .before .byte .ensures .0) (c .match .keys2)))
+returns-2 c = kinded (c .before) (c .match .keys2) refl
 
 returns-3 : tie.Need-returns-3
 unfolding kinds kindNumbered nodeOf
-returns-3 c =
-    let s = c .before .before .before .before .before .args in
-    rw (c .before .before .before .half .ensures .0, c .before .before .half2 .ensures .0)
-    (sym (node-of-kind (s .table .now) (s .j) (kind-at (s .table .now) (s .j) (c .before .byte .ensures .0) (c .match .keys3))))
+returns-3 c = rw (c .before .before .before .half .ensures .0, c .before .before .half2 .ensures .0) (kinded (c .before) (c .match .keys3) refl)
 
 returns-4 : tie.Need-returns-4
 unfolding kinds kindNumbered nodeOf
-returns-4 c =
-    let s = c .before .before .before .before .before .args in
-    rw (c .before .before .before .half .ensures .0, c .before .before .half2 .ensures .0)
-    (sym (node-of-kind (s .table .now) (s .j) (kind-at (s .table .now) (s .j) (c .before .byte .ensures .0) (c .match .keys4))))
+returns-4 c = rw (c .before .before .before .half .ensures .0, c .before .before .half2 .ensures .0) (kinded (c .before) (c .match .keys4) refl)
 
 returns-5 : tie.Need-returns-5
 unfolding kinds kindNumbered nodeOf
-returns-5 c =
-    let s = c .before .before .before .before .before .args in
-    rw (c .before .before .before .half .ensures .0, c .before .before .half2 .ensures .0)
-    (sym (node-of-kind (s .table .now) (s .j) (kind-at (s .table .now) (s .j) (c .before .byte .ensures .0) (c .match .keys5))))
+returns-5 c = rw (c .before .before .before .half .ensures .0, c .before .before .half2 .ensures .0) (kinded (c .before) (c .match .keys5) refl)
 
 returns-6 : tie.Need-returns-6
 unfolding kinds kindNumbered nodeOf
-returns-6 c =
-    let s = c .before .before .before .before .before .args in
-    rw (c .before .before .before .half .ensures .0)
-    (sym (node-of-kind (s .table .now) (s .j) (kind-at (s .table .now) (s .j) (c .before .byte .ensures .0) (c .match .keys6))))
+returns-6 c = rw (c .before .before .before .half .ensures .0) (kinded (c .before) (c .match .keys6) refl)
 
 returns-7 : tie.Need-returns-7
 unfolding kinds kindNumbered nodeOf
-returns-7 c =
-    let s = c .before .before .before .before .before .args in
-    rw (c .before .before .before .half .ensures .0)
-    (sym (node-of-kind (s .table .now) (s .j) (kind-at (s .table .now) (s .j) (c .before .byte .ensures .0) (c .match .keys7))))
+returns-7 c = rw (c .before .before .before .half .ensures .0) (kinded (c .before) (c .match .keys7) refl)
 
 returns-8 : tie.Need-returns-8
 returns-8 c =
