@@ -1,5 +1,6 @@
 pub mod Compiling
 pub mod Emitting
+pub mod Fits
 pub mod Operands
 pub mod Stores
 pub mod Writing
