@@ -12,13 +12,16 @@
 use Prim.Native.Nat.{ℕ, _+_, _≤_, _<_}
 use native.Mathlib.Omega.{arith}
 use lib.IntN.{ℤ}
-use mathlib.Core.List.{List}
-use mathlib.Core.Path.{_≡_, ap}
+use mathlib.Core.List.{List, [], _∷_}
+use mathlib.Core.Path.{_≡_, refl, ap, _∙_}
 use Rattle.rules.specs.Code.{codeLength}
-use Rattle.rules.specs.Recipe.{ofNode, expressionAt}
+use Rattle.rules.specs.Recipe.{expressionAt}
 use Rattle.rules.specs.Table.{operandsOf}
+use Rattle.rules.specs.declared.Node.{Node}
 use Rattle.rules.specs.declared.Node.the-variants.{Val, Throw, Add, Seqn, Catch, Block, Unblock}
 use Rattle.table.specs.Acceptance.{Says}
+use Rattle.table.specs.Column.{column}
+use Rattle.table.proofs.Counting.{sumOver, codeLength-ofNode}
 use Rattle.table.proofs.Acceptance.{node-below, one-below, both-below}
 use Rattle.compiler.specs.Walking.{Measurable}
 
@@ -31,38 +34,59 @@ pub record One (table : List ℕ) (j left added : ℕ) : Type 0 where
   pub left-below : left < j
   pub length : codeLength (expressionAt table j) ≡ codeLength (expressionAt table left) + added
 
+-- ---- by what a node names
+
+module _ {table : List ℕ} {j : ℕ} {node : Node} (said : Says table j node) where
+  length-said : codeLength (expressionAt table j) ≡ column node + sumOver (λ k. codeLength (expressionAt table k)) (operandsOf node)
+  length-said = ap codeLength (said .expression) ∙ codeLength-ofNode (λ k. expressionAt table k) node
+
+  no-operand : operandsOf node ≡ [] → codeLength (expressionAt table j) ≡ column node
+  unfolding sumOver
+  no-operand names = omega (arith, rw names at length-said)
+
+  one-operand : {left : ℕ} → operandsOf node ≡ left ∷ [] → One table j left (column node)
+  unfolding sumOver
+  one-operand {left} names = record {
+    left-below = one-below j left (rw names at (said .below));
+    length = omega (arith, rw names at length-said);
+  }
+
+  two-operands : {left right : ℕ} → operandsOf node ≡ left ∷ right ∷ [] → Two table j left right (column node)
+  unfolding sumOver
+  two-operands {left} {right} names =
+      let (first, second) = both-below j left right (rw names at (said .below)) in
+      record { left-below = first; right-below = second; length = omega (arith, rw names at length-said) }
+
 -- ---- kind by kind
 
 module _ {table : List ℕ} {j : ℕ} where
   pub val-length : {n : ℤ} → Says table j (Val n) → codeLength (expressionAt table j) ≡ 1
-  unfolding codeLength ofNode
-  val-length s = ap codeLength (s .expression)
+  unfolding operandsOf column
+  val-length said = no-operand said refl
 
   pub throw-length : Says table j Throw → codeLength (expressionAt table j) ≡ 1
-  unfolding codeLength ofNode
-  throw-length s = ap codeLength (s .expression)
+  unfolding operandsOf column
+  throw-length said = no-operand said refl
 
-  module _ {left right : ℕ} where
-    pub add-operands : Says table j (Add left right) → Two table j left right 1
-    unfolding codeLength ofNode operandsOf
-    add-operands s = let (l, r) = both-below j left right (s .below) in record { left-below = l; right-below = r; length = ap codeLength (s .expression) }
+  pub add-operands : {left right : ℕ} → Says table j (Add left right) → Two table j left right 1
+  unfolding operandsOf column
+  add-operands said = two-operands said refl
 
-    pub seqn-operands : Says table j (Seqn left right) → Two table j left right 1
-    unfolding codeLength ofNode operandsOf
-    seqn-operands s = let (l, r) = both-below j left right (s .below) in record { left-below = l; right-below = r; length = ap codeLength (s .expression) }
+  pub seqn-operands : {left right : ℕ} → Says table j (Seqn left right) → Two table j left right 1
+  unfolding operandsOf column
+  seqn-operands said = two-operands said refl
 
-    pub catch-operands : Says table j (Catch left right) → Two table j left right 2
-    unfolding codeLength ofNode operandsOf
-    catch-operands s = let (l, r) = both-below j left right (s .below) in record { left-below = l; right-below = r; length = ap codeLength (s .expression) }
+  pub catch-operands : {left right : ℕ} → Says table j (Catch left right) → Two table j left right 2
+  unfolding operandsOf column
+  catch-operands said = two-operands said refl
 
-  module _ {left : ℕ} where
-    pub block-operands : Says table j (Block left) → One table j left 2
-    unfolding codeLength ofNode operandsOf
-    block-operands s = record { left-below = one-below j left (s .below); length = ap codeLength (s .expression) }
+  pub block-operands : {left : ℕ} → Says table j (Block left) → One table j left 2
+  unfolding operandsOf column
+  block-operands said = one-operand said refl
 
-    pub unblock-operands : Says table j (Unblock left) → One table j left 2
-    unfolding codeLength ofNode operandsOf
-    unblock-operands s = record { left-below = one-below j left (s .below); length = ap codeLength (s .expression) }
+  pub unblock-operands : {left : ℕ} → Says table j (Unblock left) → One table j left 2
+  unfolding operandsOf column
+  unblock-operands said = one-operand said refl
 
 -- ---- measuring
 

@@ -15,6 +15,7 @@ use mathlib.Core.List.{List}
 use mathlib.Core.Path.{_≡_}
 use Rattle.rules.specs.Code.{codeLength, compile}
 use Rattle.rules.specs.CodeBytes.{instructionBytes, bytesOf}
+use Rattle.rules.specs.Limits.{instructionLimit}
 use Rattle.rules.specs.Recipe.{expressionAt}
 use Rattle.rules.specs.declared.Instruction.{Instruction}
 use Rattle.rules.specs.declared.Instruction.the-variants.{Push, Throw, Add, Pop, Mark, Unmark, Set, Reset}
@@ -22,7 +23,7 @@ use Rattle.table.specs.Acceptance.{AcceptedNode}
 
 pub record Measurable (table : List ℕ) (j : ℕ) : Type 0 where
   pub node : AcceptedNode table j
-  pub short : codeLength (expressionAt table j) ≤ 1023
+  pub short : codeLength (expressionAt table j) ≤ instructionLimit
 
 unfoldable pub targetOf : Instruction → ℕ
 targetOf (Push n) = 0
@@ -43,7 +44,7 @@ pub record Placed (code : List ℕ) (at : ℕ) (instruction : Instruction) (code
 
 pub record Emittable (table : List ℕ) (j : ℕ) (code : List ℕ) (at : ℕ) : Type 0 where
   pub node : AcceptedNode table j
-  pub short : at + codeLength (expressionAt table j) ≤ 1023
+  pub short : at + codeLength (expressionAt table j) ≤ instructionLimit
   pub room : 8 * (at + codeLength (expressionAt table j)) ≤ length code
 
 pub record Emitted (table : List ℕ) (j : ℕ) (code : List ℕ) (at next : ℕ) (code' : List ℕ) : Type 0 where

@@ -2,7 +2,7 @@
 --
 --   recordBytes   the bytes of a node, of an instruction and of an item
 --   nodeLimit     the nodes of a table, and `tableLimit`, its bytes
---   codeLimit     the bytes of a code: 1,023 instructions
+--   codeLimit     the bytes of a code, and `instructionLimit`, its instructions
 --   itemLimit     the items on the stack, and `stackBytes`, the bytes lent for them
 --   stepLimit     the steps of a run
 --
@@ -20,6 +20,9 @@ tableLimit = 4096
 
 abbrev pub codeLimit : ℕ
 codeLimit = 8184
+
+abbrev pub instructionLimit : ℕ
+instructionLimit = 1023
 
 abbrev pub itemLimit : ℕ
 itemLimit = 512

@@ -3,6 +3,7 @@
 --
 --   sumBelow             the sum of a function over the numbers below n
 --   sumOver              and over a list of numbers
+--   codeLength-ofNode    a node's code is its operands' code and what it adds
 --   whole-counted        the law, over an arbitrary weight
 --   nodes-counted        so the last node's expression has n nodes
 --   codeLength-counted   and its code is as long as the column's sum
@@ -108,7 +109,7 @@ nodes-ofNode f (Catch left right) = omega arith
 nodes-ofNode f (Block left) = omega arith
 nodes-ofNode f (Unblock left) = omega arith
 
-codeLength-ofNode : (f : ℕ → Expression) (node : Node) → codeLength (ofNode node f) ≡ column node + sumOver (λ k. codeLength (f k)) (operandsOf node)
+pub codeLength-ofNode : (f : ℕ → Expression) (node : Node) → codeLength (ofNode node f) ≡ column node + sumOver (λ k. codeLength (f k)) (operandsOf node)
 unfolding codeLength ofNode operandsOf sumOver column
 codeLength-ofNode f (Val n) = refl
 codeLength-ofNode f Throw = refl

@@ -18,7 +18,7 @@ use mathlib.Core.List.{List}
 use mathlib.Core.Option.{Option, none, some}
 use mathlib.Core.Path.{_≡_, refl, ap, sym, _∙_}
 use Rattle.rules.specs.Bytes.{records, wholeRecords}
-use Rattle.rules.specs.Limits.{tableLimit}
+use Rattle.rules.specs.Limits.{nodeLimit, tableLimit}
 use Rattle.rules.specs.Refusals.{unless, firstRefusal, lowestRefusal}
 use Rattle.rules.specs.Table.{operandsOf, nodeTest, useTest, tableTests}
 use Rattle.rules.specs.declared.Node.{Node}
@@ -36,7 +36,7 @@ use Rattle.table.proofs.Tally.{node-room, node-counted}
 
 pub record Walked (table : List ℕ) (n : ℕ) (counts : List ℕ) (j : ℕ) : Type 0 where
   pub within : j ≤ n
-  pub few : n ≤ 512
+  pub few : n ≤ nodeLimit
   pub passed : lowestRefusal (nodeTest table) j ≡ none
   pub tally : CountsUses table j counts
 

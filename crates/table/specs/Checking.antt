@@ -21,6 +21,7 @@ use mathlib.Core.List.{List, [], _∷_}
 use mathlib.Core.Option.{Option, none, some}
 use mathlib.Core.Path.{_≡_}
 use Rattle.rules.specs.Bytes.{allZero, records}
+use Rattle.rules.specs.Limits.{nodeLimit}
 use Rattle.rules.specs.Refusals.{unless, firstRefusal, lowestRefusal}
 use Rattle.rules.specs.Table.{kindNumbered, nodeAt, nodeTest, allBelow, uses, tableTests}
 use Rattle.rules.specs.declared.Reason.the-variants.{Uses}
@@ -58,8 +59,8 @@ pub record Room (counts nodes : List ℕ) : Type 0 where
   pub low : (k : ℕ) → getD counts k 0 + length nodes < 2 ^ 16
 
 pub record CountsUses (table : List ℕ) (n : ℕ) (counts : List ℕ) : Type 0 where
-  pub places : length counts ≡ 512
-  pub count : (k : ℕ) → k < 512 → getD counts k 0 ≡ uses table n k
+  pub places : length counts ≡ nodeLimit
+  pub count : (k : ℕ) → k < nodeLimit → getD counts k 0 ≡ uses table n k
 
 unfoldable pub countTest : List ℕ → ℕ → Option Refusal
 countTest counts k = unless (eqb (getD counts k 0) 1) Uses k
@@ -68,7 +69,7 @@ countTest counts k = unless (eqb (getD counts k 0) 1) Uses k
 
 pub record Countable (table : List ℕ) (n : ℕ) (counts : List ℕ) : Type 0 where
   pub size : length table ≡ 8 * n
-  pub few : n ≤ 512
+  pub few : n ≤ nodeLimit
   pub none : CountsUses table 0 counts
 
 pub record NodesChecked (table : List ℕ) (n : ℕ) (r : Checked) (counts : List ℕ) : Type 0 where

@@ -17,7 +17,7 @@ pub enum Reading {
 }
 
 // A node with its tests.
-pub fn read(table: &[u8], j: usize) -> Reading
+pub(crate) fn read(table: &[u8], j: usize) -> Reading
     requires { ⌜ 8 * j + 7 < length (now table) ⌝ }
     ensures { λ r. ⌜ r ≡ readingAt (now (table .entry)) j ⌝ }
 {
