@@ -10,9 +10,8 @@
 use Prim.Native.Nat.{ℕ, zero, suc, _+_, _-_, _≤_}
 use native.Mathlib.Omega.{arith}
 use lib.IntN.{ℤ}
-use lib.ListN.{length, getElem?}
+use lib.ListN.{length}
 use mathlib.Core.List.{List, [], _∷_}
-use mathlib.Core.Option.{none}
 use mathlib.Core.Path.{_≡_, refl, ap, _∙_}
 use Rattle.rules.specs.Demand.{Meets, here, later}
 use Rattle.rules.specs.Limits.{stepLimit}
@@ -24,15 +23,11 @@ use Rattle.rules.specs.declared.Item.the-variants.{Number}
 use Rattle.rules.specs.declared.End.{End}
 use Rattle.rules.specs.declared.Outcome.{Outcome}
 use Rattle.rules.specs.declared.Outcome.the-variants.{Ended}
+use Rattle.rules.proofs.Lookup.{missing-past}
 use Rattle.rules.proofs.Order.{running, unwinding, run-next, run-over}
 use Rattle.rules.proofs.Path.{Goes, Path, done, _▸_}
 
 -- ---- where a path is over
-
-getElem-past : (code : List Instruction) (a : ℕ) → length code ≤ a → getElem? code a ≡ none
-getElem-past [] a h = refl
-getElem-past (x ∷ code) zero h = absurd (omega arith)
-getElem-past (x ∷ code) (suc a) h = getElem-past code a (omega arith)
 
 pub record Finishes (code : List Instruction) (asks : Placing) (s : State) (o : Outcome) : Type 0 where
   pub over : step code asks s ≡ Over o
@@ -40,7 +35,7 @@ pub record Finishes (code : List Instruction) (asks : Placing) (s : State) (o : 
 module _ {code : List Instruction} {asks : Placing} {i : Status} {t r : ℕ} where
   pub number-finishes : {a : ℕ} {n : ℤ} → length code ≤ a → Finishes code asks (running a i (Number n ∷ []) t r) (Ended (End.Number n))
   unfolding step stepIn stepAt atLength withNumber withNothing
-  number-finishes {a = a} h = record { over = rw (getElem-past code a h, stepAt) }
+  number-finishes {a = a} h = record { over = rw (missing-past code a h, stepAt) }
 
   pub throw-finishes : Finishes code asks (unwinding i [] t r) (Ended End.Throw)
   unfolding step stepIn unwind

@@ -10,9 +10,8 @@
 use Prim.Native.Nat.{ℕ, _+_, _*_, _≤_}
 use native.Mathlib.Omega.{arith}
 use lib.IntN.{ℤ}
-use lib.ListN.{length, getElem?, length-append}
+use lib.ListN.{length, length-append}
 use mathlib.Core.List.{List, [], _∷_, _++_, append-assoc}
-use mathlib.Core.Option.{some}
 use mathlib.Core.Path.{_≡_, refl, _∙_}
 use Rattle.rules.specs.Code.{codeLength, compile}
 use Rattle.rules.specs.Expression.{Expression, Val, Throw, Add, Seqn, Catch, Block, Unblock, nodes}
@@ -20,6 +19,7 @@ use Rattle.rules.specs.declared.Status.{Status}
 use Rattle.rules.specs.declared.Status.the-variants.{Blocked, Unblocked}
 use Rattle.rules.specs.declared.Instruction.{Instruction}
 use Rattle.rules.specs.declared.Instruction.the-variants.{Push, Pop, Mark, Unmark, Set, Reset}
+use Rattle.rules.proofs.Lookup.{found-seam}
 use Rattle.rules.proofs.Order.{Has}
 
 -- ---- sizes
@@ -71,12 +71,8 @@ pub data Holds (code : List Instruction) : ℕ → Expression → ℕ → Type 0
 
 -- ---- compiled code
 
-getElem-seam : (front : List Instruction) (x : Instruction) (back : List Instruction) → getElem? (front ++ x ∷ back) (length front) ≡ some x
-getElem-seam [] x back = refl
-getElem-seam (y ∷ front) x back = getElem-seam front x back
-
 has : {code : List Instruction} {a : ℕ} {x : Instruction} (front back : List Instruction) → length front ≡ a → code ≡ front ++ x ∷ back → Has code a x
-has {x = x} front back l e = record { found = rw (e, ← l) (getElem-seam front x back) }
+has {x = x} front back l e = record { found = rw (e, ← l) (found-seam front x back) }
 
 -- SET i, x, RESET: what Block and Unblock have in common
 scope-holds : {code : List Instruction} (i : Status) (a : ℕ) (x : Expression) (front back : List Instruction) → length front ≡ a

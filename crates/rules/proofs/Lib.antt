@@ -5,6 +5,7 @@ pub mod Computing
 pub mod Demand
 pub mod Foreign
 pub mod Holding
+pub mod Lookup
 pub mod Order
 pub mod Path
 pub mod Quiet

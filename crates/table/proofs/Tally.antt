@@ -29,7 +29,8 @@ use Rattle.rules.specs.declared.Node.{Node}
 use Rattle.rules.specs.declared.Node.the-variants.{Val, Throw, Add, Seqn, Catch, Block, Unblock}
 use Rattle.rules.specs.declared.Reason.the-variants.{Uses}
 use Rattle.rules.proofs.Tests.{lowest-found, lowest-same}
-use Rattle.table.specs.Checking.{Room, CountsUses, checkedBy, counted, countTest}
+use Rattle.table.specs.Checking.{checkedBy}
+use Rattle.table.specs.Counts.{Room, CountsUses, counted, countTest}
 use Rattle.table.specs.declared.Checked.the-variants.{Accepted, Refused}
 use Rattle.table.proofs.Unfolding.{below-cons, below-more}
 

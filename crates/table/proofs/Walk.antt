@@ -25,7 +25,8 @@ use Rattle.rules.specs.declared.Node.{Node}
 use Rattle.rules.specs.declared.Reason.the-variants.{TableSize}
 use Rattle.rules.specs.declared.Refusal.{Refusal}
 use Rattle.rules.proofs.Tests.{refused-not-passed, first-only, lowest-next, lowest-found}
-use Rattle.table.specs.Checking.{checkedBy, checkAnswer, readingAt, counted, Room, CountsUses, Countable, NodesChecked}
+use Rattle.table.specs.Checking.{checkedBy, checkAnswer, readingAt}
+use Rattle.table.specs.Counts.{counted, Room, CountsUses, Countable, NodesChecked}
 use Rattle.table.specs.declared.Checked.the-variants.{Accepted, Refused}
 use Rattle.table.specs.declared.node.Reading.{Reading}
 use Rattle.table.specs.declared.node.Reading.the-variants.{Sound}

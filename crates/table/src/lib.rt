@@ -7,7 +7,8 @@ use node::Reading;
 use rules::Reason;
 use rules::Refusal;
 ghost use mathlib.Core.Path.{_≡_};
-ghost use Rattle.table.specs.Checking.{checkAnswer, Countable, NodesChecked};
+ghost use Rattle.table.specs.Checking.{checkAnswer};
+ghost use Rattle.table.specs.Counts.{Countable, NodesChecked};
 
 // What checking answers: how many nodes the table has, or the refusal.
 pub enum Checked {

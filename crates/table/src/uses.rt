@@ -10,7 +10,8 @@ ghost use mathlib.Core.List.{[], _∷_};
 ghost use lib.ListN.{length};
 ghost use Rattle.rules.specs.Refusals.{lowestRefusal};
 ghost use Rattle.rules.specs.Table.{operandsOf};
-ghost use Rattle.table.specs.Checking.{checkedBy, countTest, counted, Room};
+ghost use Rattle.table.specs.Checking.{checkedBy};
+ghost use Rattle.table.specs.Counts.{countTest, counted, Room};
 
 // Each operand of the node is used once more.
 pub(crate) fn count(counts: &mut [u16], node: Node)

@@ -7,7 +7,7 @@ use mir.Syntax.{w32}
 use mir.Val.{SFits}
 use mir.Facts.{toZ-ofZ}
 use Rattle.rules.specs.Table.{KindRow, kinds, kindNumbered, nodeOf, nodeAt}
-use Rattle.table.proofs.Reading.{kind-at, kind-other, node-of-kind, node-of-no-kind}
+use Rattle.table.proofs.NodeKinds.{kind-at, kind-other, node-of-kind, node-of-no-kind}
 use Rattle.table.proofs.node.at.Statement.{statement}
 use Rattle.table.proofs.node.at.Tie as tie
 

@@ -5,7 +5,8 @@ use borrow.Author.Tests.{eq-eqb, ne-eqb, ltb-true, ltb-false}
 use borrow.Author.Needs.{needs}
 use mathlib.Core.Logic.{⊎-elim}
 use mathlib.Core.Path.{sym, _∙_}
-use Rattle.table.proofs.Reading.{Known, kind-known, kind-unknown, reads-kind, reads-unused, reads-operand, reads-sound}
+use Rattle.table.proofs.NodeKinds.{Known, kind-known, kind-unknown}
+use Rattle.table.proofs.Reading.{reads-kind, reads-unused, reads-operand, reads-sound}
 use Rattle.table.proofs.node.read.Statement.{statement}
 use Rattle.table.proofs.node.read.Tie as tie
 

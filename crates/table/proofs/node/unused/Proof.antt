@@ -3,7 +3,8 @@ use borrow.Author.Needs.{needs}
 use mathlib.Core.Path.{sym}
 use Rattle.rules.specs.Table.{kinds, kindNumbered}
 use Rattle.table.specs.Checking.{unusedZero}
-use Rattle.table.proofs.Reading.{kind-other, unused-val, unused-throw, unused-pair, unused-scope, unused-none}
+use Rattle.table.proofs.NodeKinds.{kind-other}
+use Rattle.table.proofs.UnusedBytes.{unused-val, unused-throw, unused-pair, unused-scope, unused-none}
 use Rattle.table.proofs.node.unused.Statement.{statement}
 use Rattle.table.proofs.node.unused.Tie as tie
 

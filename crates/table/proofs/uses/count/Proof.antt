@@ -1,7 +1,7 @@
 -- `table::uses::count` meets its contract, kind by kind. Assumes nothing.
 use borrow.Author.Needs.{needs}
 use Rattle.rules.specs.Table.{operandsOf}
-use Rattle.table.specs.Checking.{counted}
+use Rattle.table.specs.Counts.{counted}
 use Rattle.table.proofs.uses.count.Statement.{statement}
 use Rattle.table.proofs.uses.count.Tie as tie
 

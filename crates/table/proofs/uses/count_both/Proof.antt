@@ -1,7 +1,7 @@
 -- `table::uses::count_both` meets its contract. Assumes nothing.
 use borrow.Author.Needs.{needs}
 use mathlib.Core.Path.{_∙_}
-use Rattle.table.specs.Checking.{counted}
+use Rattle.table.specs.Counts.{counted}
 use Rattle.table.proofs.Tally.{room-one, room-rest}
 use Rattle.table.proofs.uses.count_both.Statement.{statement}
 use Rattle.table.proofs.uses.count_both.Tie as tie

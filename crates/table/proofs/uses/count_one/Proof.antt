@@ -2,7 +2,7 @@
 use native.Mathlib.Omega.{arith}
 use borrow.Author.Needs.{needs}
 use mathlib.Core.Path.{refl}
-use Rattle.table.specs.Checking.{counted}
+use Rattle.table.specs.Counts.{counted}
 use Rattle.table.proofs.Tally.{room-first}
 use Rattle.table.proofs.uses.count_one.Statement.{statement}
 use Rattle.table.proofs.uses.count_one.Tie as tie

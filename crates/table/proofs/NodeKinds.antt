@@ -1,0 +1,70 @@
+-- Kinds by their numbers, and the node of a record by its kind.
+--
+--   Known, kind-known   there is a kind of each number from 1 to 7
+--   kind-unknown, kind-other
+--                       and of no other, nor of one that differs from each
+--   kind-at             the kind of a record, by its first byte
+--   node-of-kind        the node of a record, by its kind
+--   node-of-no-kind     and where it has none
+--
+-- Assumes nothing.
+use Prim.Native.Nat.{ℕ, zero, suc, _*_, _≤_, _<_}
+use native.Mathlib.Decide.{decLt}
+use native.Mathlib.Omega.{arith}
+use mathlib.Core.List.{List}
+use mathlib.Core.Option.{none, some}
+use mathlib.Core.Path.{_≡_, refl, ap, sym, _∙_}
+use Rattle.rules.specs.Bytes.{byteAt}
+use Rattle.rules.specs.Table.{KindRow, kinds, kindNumbered, kindAt, nodeOf, nodeAt}
+use Rattle.rules.specs.declared.Node.the-variants.{Throw}
+use Rattle.rules.proofs.Lookup.{found-below, missing-past}
+
+-- ---- kinds
+
+pub record Known (kind : ℕ) : Type 0 where
+  pub row : KindRow
+  pub found : kindNumbered kind ≡ some row
+
+pub kind-known : (kind : ℕ) → 1 ≤ kind → kind ≤ 7 → Known kind
+unfolding kinds kindNumbered
+kind-known zero l h = absurd (omega arith)
+kind-known (suc kind) l h = let here = found-below kinds kind (omega arith) in record { row = here .here; found = here .found }
+
+pub kind-unknown : (kind : ℕ) → (1 ≤ kind → kind ≤ 7 → ⊥) → kindNumbered kind ≡ none
+unfolding kinds kindNumbered
+kind-unknown zero h = refl
+kind-unknown (suc kind) h = elim (decLt kind 7) [
+  | yes below ↦ absurd (h (omega arith) (omega arith))
+  | no past ↦ missing-past kinds kind (omega arith)
+]
+
+low : (kind : ℕ) → 1 ≤ kind → kind < 4 → (kind ≡ 1 → ⊥) → (kind ≡ 2 → ⊥) → (kind ≡ 3 → ⊥) → ⊥
+low kind l h val throw add = omega arith
+
+high : (kind : ℕ) → 4 ≤ kind → kind ≤ 7 → (kind ≡ 4 → ⊥) → (kind ≡ 5 → ⊥) → (kind ≡ 6 → ⊥) → (kind ≡ 7 → ⊥) → ⊥
+high kind l h seqn catch block unblock = omega arith
+
+pub kind-other : (kind : ℕ) → (kind ≡ 1 → ⊥) → (kind ≡ 2 → ⊥) → (kind ≡ 3 → ⊥) → (kind ≡ 4 → ⊥) → (kind ≡ 5 → ⊥) → (kind ≡ 6 → ⊥) → (kind ≡ 7 → ⊥)
+    → kindNumbered kind ≡ none
+kind-other kind val throw add seqn catch block unblock =
+    kind-unknown kind (λ l h. elim (decLt kind 4) [
+      | yes below ↦ low kind l below val throw add
+      | no above ↦ high kind (not-below kind above) h seqn catch block unblock
+    ]) where
+      not-below : (kind : ℕ) → (kind < 4 → ⊥) → 4 ≤ kind
+      not-below kind above = omega arith
+
+-- ---- nodes
+
+module _ (table : List ℕ) (j : ℕ) where
+  pub kind-at : {byte kind : ℕ} → byte ≡ byteAt table (8 * j) → byte ≡ kind → kindAt table j ≡ kindNumbered kind
+  unfolding kindAt
+  kind-at read e = ap kindNumbered (sym read ∙ e)
+
+  pub node-of-kind : {row : KindRow} → kindAt table j ≡ some row → nodeAt table j ≡ nodeOf row table (8 * j)
+  unfolding nodeAt
+  node-of-kind found = rw (found, nodeAt)
+
+  pub node-of-no-kind : kindAt table j ≡ none → nodeAt table j ≡ Throw
+  unfolding nodeAt
+  node-of-no-kind missing = rw (missing, nodeAt)
