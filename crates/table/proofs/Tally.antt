@@ -23,6 +23,7 @@ use mathlib.Core.List.{List, [], _∷_}
 use mathlib.Core.Option.{none, some}
 use mathlib.Core.Path.{_≡_, refl, _∙_}
 use Rattle.rules.specs.Bytes.{records}
+use Rattle.rules.specs.Limits.{nodeLimit}
 use Rattle.rules.specs.Refusals.{unless, lowestRefusal}
 use Rattle.rules.specs.Table.{nodeAt, operandsOf, allBelow, times, uses, useTest}
 use Rattle.rules.specs.declared.Node.{Node}
@@ -83,9 +84,9 @@ unfolding uses
 uses-few table zero k = omega arith
 uses-few table (suc n) k = omega (arith, uses-few table n k, times-few k (operandsOf (nodeAt table n)), few-operands (nodeAt table n))
 
-pub none-counted : (table : List ℕ) → CountsUses table 0 (replicate 512 0)
+pub none-counted : (table : List ℕ) → CountsUses table 0 (replicate nodeLimit 0)
 unfolding uses
-none-counted table = record { places = length-replicate {A = ℕ} 512 0; count = λ k h. getD-replicate 512 k 0 0 h }
+none-counted table = record { places = length-replicate {A = ℕ} nodeLimit 0; count = λ k h. getD-replicate nodeLimit k 0 0 h }
 
 length-counted : (counts ks : List ℕ) → length (counted counts ks) ≡ length counts
 unfolding counted
@@ -101,12 +102,12 @@ counted-times counts (i ∷ ks) below k =
     let places : allBelow (length next) ks ≡ true = rw length-set others in
     omega (arith, counted-times next ks places k, count-more counts i k first)
 
-module _ {table : List ℕ} {j : ℕ} {counts : List ℕ} (so-far : CountsUses table j counts) (below : allBelow j (operandsOf (nodeAt table j)) ≡ true) (few : j < 512) where
+module _ {table : List ℕ} {j : ℕ} {counts : List ℕ} (so-far : CountsUses table j counts) (below : allBelow j (operandsOf (nodeAt table j)) ≡ true) (few : j < nodeLimit) where
   places : allBelow (length counts) (operandsOf (nodeAt table j)) ≡ true
   places = below-more (operandsOf (nodeAt table j)) (omega (arith, so-far .places)) below
 
-  count-few : (k : ℕ) → getD counts k 0 ≤ 1024
-  count-few k = elim (decLt k 512) [
+  count-few : (k : ℕ) → getD counts k 0 ≤ 2 * nodeLimit
+  count-few k = elim (decLt k nodeLimit) [
     | yes inside ↦ omega (arith, so-far .count k inside, uses-few table j k)
     | no past ↦
         let outside : length counts ≤ k = omega (arith, so-far .places) in
@@ -137,9 +138,9 @@ module _ (counts : List ℕ) (n k : ℕ) (before : lowestRefusal (countTest coun
   counts-right end = rw (end, before)
 
 module _ {table counts : List ℕ} (all : CountsUses table (records table) counts) where
-  counted-test : (k : ℕ) → k < 512 → countTest counts k ≡ useTest table k
+  counted-test : (k : ℕ) → k < nodeLimit → countTest counts k ≡ useTest table k
   unfolding countTest useTest
   counted-test k h = rw (all .count k h)
 
-  pub counted-tests : (m : ℕ) → m ≤ 512 → lowestRefusal (countTest counts) m ≡ lowestRefusal (useTest table) m
+  pub counted-tests : (m : ℕ) → m ≤ nodeLimit → lowestRefusal (countTest counts) m ≡ lowestRefusal (useTest table) m
   counted-tests m h = lowest-same (countTest counts) (useTest table) m (λ k b. counted-test k (omega arith))

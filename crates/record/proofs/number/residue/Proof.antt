@@ -19,17 +19,17 @@ negative c = below-zero _ (rw (toZ-ofZ (c .before .fits .n)) at (c .if1 .taken))
 positive : (c : tie.Else1) → c .before .args .n ≡ pos (mag (c .before .args .n))
 positive c = not-below-zero _ (rw (toZ-ofZ (c .before .fits .n)) at (c .if1 .left))
 
-read : (c : tie.Then1) → toZ w32 (ofZ w32 (c .before .args .n)) ≡ negsuc (mag (c .before .args .n))
-read c = toZ-ofZ (c .before .fits .n) ∙ negative c
+read-negative : (c : tie.Then1) → toZ w32 (ofZ w32 (c .before .args .n)) ≡ negsuc (mag (c .before .args .n))
+read-negative c = toZ-ofZ (c .before .fits .n) ∙ negative c
 
 read-positive : (c : tie.Else1) → toZ w32 (ofZ w32 (c .before .args .n)) ≡ pos (mag (c .before .args .n))
 read-positive c = toZ-ofZ (c .before .fits .n) ∙ positive c
 
 rest : (c : tie.Then1) → toZ w32 (ofZ w32 (negsuc 0 -ℤ toZ w32 (ofZ w32 (c .before .args .n)))) ≡ pos (mag (c .before .args .n))
-rest c = rw (read c, minus-one-less-negsuc, toZ-pos w32 (c .before .fits .n .sfits))
+rest c = rw (read-negative c, minus-one-less-negsuc, toZ-pos w32 (c .before .fits .n .sfits))
 
 sub-result : tie.Need-sub-result
-sub-result c = rw (read c, minus-one-less-negsuc) (record { sfits = c .before .fits .n .sfits })
+sub-result c = rw (read-negative c, minus-one-less-negsuc) (record { sfits = c .before .fits .n .sfits })
 
 cast-result : tie.Need-cast-result
 cast-result c =
