@@ -18,13 +18,13 @@ use Rattle.rules.specs.Compiling.{codeOf, compileTests, compileAnswer, compileL
 use Rattle.rules.specs.Recipe.{expressionAt, recipe}
 use Rattle.rules.specs.Refusals.{unless, firstRefusal}
 use Rattle.rules.specs.Table.{tableTests}
+use Rattle.rules.specs.declared.Checked.{Checked}
+use Rattle.rules.specs.declared.Checked.the-variants.{Accepted}
 use Rattle.rules.specs.declared.Compiled.the-variants.{Length, Refused}
 use Rattle.rules.specs.declared.Reason.the-variants.{CodeBuffer}
 use Rattle.rules.specs.declared.Refusal.{Refusal}
 use Rattle.rules.proofs.Tests.{first-only, rows-passed, rows-refused}
 use Rattle.table.specs.Checking.{checkAnswer}
-use Rattle.table.specs.declared.Checked.{Checked}
-use Rattle.table.specs.declared.Checked.the-variants.{Accepted}
 use Rattle.table.proofs.Acceptance.{check-passed, check-refused, last-node, last-recipe, recipe-short}
 use Rattle.compiler.specs.Walking.{Measurable, Emittable, Emitted}
 use Rattle.compiler.proofs.Writing.{emitted-front}

@@ -4,10 +4,10 @@ mod emit;
 mod measure;
 mod place;
 
+use rules::Checked;
 use rules::Compiled;
 use rules::Reason;
 use rules::Refusal;
-use table::Checked;
 ghost use mathlib.Core.Path.{_≡_};
 ghost use Rattle.rules.specs.Compiling.{compileAnswer, compileLeaves};
 

@@ -24,6 +24,7 @@ use Rattle.rules.specs.Evaluation.{quiet, quietAdd, quietSeqn, quietCatch}
 use Rattle.rules.specs.Number.{sum}
 use Rattle.rules.specs.Recipe.{ofNode, expressionAt}
 use Rattle.rules.specs.Table.{operandsOf}
+use Rattle.rules.specs.declared.Checked.the-variants.{Accepted, Refused}
 use Rattle.rules.specs.declared.End.{End}
 use Rattle.rules.specs.declared.End.the-variants.{Number, Throw}
 use Rattle.rules.specs.declared.Node.{Node}
@@ -33,7 +34,6 @@ use Rattle.rules.specs.declared.Outcome.the-variants.{Ended}
 use Rattle.rules.specs.declared.Refusal.{Refusal}
 use Rattle.table.specs.Acceptance.{AcceptedNode, Says}
 use Rattle.table.specs.Checking.{checkAnswer}
-use Rattle.table.specs.declared.Checked.the-variants.{Accepted, Refused}
 use Rattle.table.proofs.Acceptance.{check-passed, check-refused, node-below, one-below, both-below, last-recipe}
 
 -- ---- a node and its operands

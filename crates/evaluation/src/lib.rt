@@ -1,9 +1,9 @@
 // The end of a recipe that no recall strikes, straight from its table (document 01, "What a recipe may end in").
 
+use rules::Checked;
 use rules::End;
 use rules::Node;
 use rules::Outcome;
-use table::Checked;
 ghost use mathlib.Core.Path.{_≡_};
 ghost use Rattle.rules.specs.Evaluating.{evaluateAnswer};
 ghost use Rattle.rules.specs.Evaluation.{quiet};

@@ -67,6 +67,12 @@ pub struct Refusal {
     pub place: usize,
 }
 
+// What checking answers: how many nodes a table has or instructions a code, or the refusal.
+pub enum Checked {
+    Accepted(usize),
+    Refused(Refusal),
+}
+
 // What compiling answers: the code length in instructions, or the refusal.
 pub enum Compiled {
     Length(usize),

@@ -29,19 +29,18 @@ use Rattle.rules.specs.Expression.{nodes}
 use Rattle.rules.specs.Recipe.{expressionAt, recipe}
 use Rattle.rules.specs.Refusals.{firstRefusal}
 use Rattle.rules.specs.Table.{nodeAt, allBelow, nodeTest, useTest, tableTests}
+use Rattle.rules.specs.declared.Checked.the-variants.{Accepted, Refused}
 use Rattle.rules.specs.declared.Node.{Node}
 use Rattle.rules.specs.declared.Refusal.{Refusal}
 use Rattle.rules.proofs.Holding.{codeLength-nodes}
 use Rattle.rules.proofs.Sizes.{whole-means}
-use Rattle.rules.proofs.Tests.{unless-passed, first-none, lowest-none}
+use Rattle.rules.proofs.Tests.{unless-passed, first-none, lowest-none, checked-accepted, checked-refused}
 use Rattle.table.specs.Acceptance.{AcceptedTable, AcceptedNode, Says}
 use Rattle.table.specs.Checking.{checkAnswer}
 use Rattle.table.specs.Column.{columnSum}
-use Rattle.table.specs.declared.Checked.the-variants.{Accepted, Refused}
 use Rattle.table.proofs.Counting.{nodes-counted, codeLength-counted}
 use Rattle.table.proofs.Reading.{passed-below}
 use Rattle.table.proofs.Unfolding.{below-cons, expressionAt-unfolds}
-use Rattle.table.proofs.Walk.{checked-accepted, checked-refused}
 
 -- ---- the tests
 

@@ -24,15 +24,14 @@ use mathlib.Core.Option.{none, some}
 use mathlib.Core.Path.{_≡_, refl, _∙_}
 use Rattle.rules.specs.Bytes.{records}
 use Rattle.rules.specs.Limits.{nodeLimit}
-use Rattle.rules.specs.Refusals.{unless, lowestRefusal}
+use Rattle.rules.specs.Refusals.{unless, lowestRefusal, checkedBy}
 use Rattle.rules.specs.Table.{nodeAt, operandsOf, allBelow, times, uses, useTest}
+use Rattle.rules.specs.declared.Checked.the-variants.{Accepted, Refused}
 use Rattle.rules.specs.declared.Node.{Node}
 use Rattle.rules.specs.declared.Node.the-variants.{Val, Throw, Add, Seqn, Catch, Block, Unblock}
 use Rattle.rules.specs.declared.Reason.the-variants.{Uses}
 use Rattle.rules.proofs.Tests.{lowest-found, lowest-same}
-use Rattle.table.specs.Checking.{checkedBy}
 use Rattle.table.specs.Counts.{Room, CountsUses, counted, countTest}
-use Rattle.table.specs.declared.Checked.the-variants.{Accepted, Refused}
 use Rattle.table.proofs.Unfolding.{below-cons, below-more}
 
 -- ---- one more use

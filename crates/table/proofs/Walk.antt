@@ -5,8 +5,6 @@
 --                     from the first node to the last
 --   walk-room         what the next node names can be counted
 --   walk-stops        a node that is refused
---   checked-accepted, checked-refused
---                     what an answer says of the first refusal
 --   check-size, check-node, check-uses
 --                     what checking answers, by the first of its tests that refuses
 --
@@ -15,19 +13,19 @@ use Prim.Native.Nat.{ℕ, _+_, _-_, _≤_, _<_}
 use native.Mathlib.Omega.{arith}
 use mathlib.Core.Bool.{true, false}
 use mathlib.Core.List.{List}
-use mathlib.Core.Option.{Option, none, some}
+use mathlib.Core.Option.{none, some}
 use mathlib.Core.Path.{_≡_, refl, ap, sym, _∙_}
 use Rattle.rules.specs.Bytes.{records, wholeRecords}
 use Rattle.rules.specs.Limits.{nodeLimit, tableLimit}
-use Rattle.rules.specs.Refusals.{unless, firstRefusal, lowestRefusal}
+use Rattle.rules.specs.Refusals.{unless, firstRefusal, lowestRefusal, checkedBy}
 use Rattle.rules.specs.Table.{operandsOf, nodeTest, useTest, tableTests}
+use Rattle.rules.specs.declared.Checked.the-variants.{Accepted, Refused}
 use Rattle.rules.specs.declared.Node.{Node}
 use Rattle.rules.specs.declared.Reason.the-variants.{TableSize}
 use Rattle.rules.specs.declared.Refusal.{Refusal}
 use Rattle.rules.proofs.Tests.{refused-not-passed, first-only, lowest-next, lowest-found}
-use Rattle.table.specs.Checking.{checkedBy, checkAnswer, readingAt}
+use Rattle.table.specs.Checking.{checkAnswer, readingAt}
 use Rattle.table.specs.Counts.{counted, Room, CountsUses, Countable, NodesChecked}
-use Rattle.table.specs.declared.Checked.the-variants.{Accepted, Refused}
 use Rattle.table.specs.declared.node.Reading.{Reading}
 use Rattle.table.specs.declared.node.Reading.the-variants.{Sound}
 use Rattle.table.proofs.Reading.{sound-passed, refused-test, passed-below}
@@ -75,16 +73,6 @@ module _ {table : List ℕ} {n : ℕ} {counts : List ℕ} {j : ℕ} (so-far : Wa
       record { answer = rw (← end, so-far .passed); counted = λ e. rw end at (so-far .tally) }
 
 -- ---- what checking answers
-
-pub checked-accepted : {n m : ℕ} (o : Option Refusal) → checkedBy n o ≡ Accepted m → (o ≡ none) × (m ≡ n)
-unfolding checkedBy
-checked-accepted none e = (refl, cc)
-checked-accepted (some r) e = let never : _≡_ {A = ℕ} 0 1 = cc in absurd (omega arith)
-
-pub checked-refused : (n : ℕ) {r : Refusal} (o : Option Refusal) → checkedBy n o ≡ Refused r → o ≡ some r
-unfolding checkedBy
-checked-refused n none e = let never : _≡_ {A = ℕ} 0 1 = cc in absurd (omega arith)
-checked-refused n (some s) e = cc
 
 module _ (table : List ℕ) where
   pub check-size : wholeRecords tableLimit table ≡ false → checkAnswer table ≡ Refused (record { reason = TableSize; place = 0 })

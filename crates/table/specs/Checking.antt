@@ -1,6 +1,5 @@
 -- What checking a table and reading a node answer (document 01, "The recipe table" and "Refusal numbers").
 --
---   checkedBy     an answer, from the first refusal
 --   checkAnswer   what `check` answers: the tests 1 to 5 in their order
 --   readingAt     what reading a node answers: its tests 2, 3 and 4
 --   unusedZero    the bytes that a kind does not use are zero
@@ -11,19 +10,13 @@ use mathlib.Core.Bool.{Bool, true}
 use mathlib.Core.List.{List}
 use mathlib.Core.Option.{Option, none, some}
 use Rattle.rules.specs.Bytes.{allZero, records}
-use Rattle.rules.specs.Refusals.{firstRefusal}
+use Rattle.rules.specs.Refusals.{firstRefusal, checkedBy}
 use Rattle.rules.specs.Table.{kindNumbered, nodeAt, nodeTest, tableTests}
-use Rattle.rules.specs.declared.Refusal.{Refusal}
-use Rattle.table.specs.declared.Checked.{Checked}
-use Rattle.table.specs.declared.Checked.the-variants.{Accepted, Refused}
+use Rattle.rules.specs.declared.Checked.{Checked}
 use Rattle.table.specs.declared.node.Reading.{Reading}
 use Rattle.table.specs.declared.node.Reading.the-variants.{Sound}
 
 -- ---- answers
-
-unfoldable pub checkedBy : ℕ → Option Refusal → Checked
-checkedBy n none = Accepted n
-checkedBy n (some r) = Refused r
 
 unfoldable pub checkAnswer : List ℕ → Checked
 checkAnswer table = checkedBy (records table) (firstRefusal (tableTests table))

@@ -4,17 +4,12 @@ pub mod node;
 mod uses;
 
 use node::Reading;
+use rules::Checked;
 use rules::Reason;
 use rules::Refusal;
 ghost use mathlib.Core.Path.{_≡_};
 ghost use Rattle.table.specs.Checking.{checkAnswer};
 ghost use Rattle.table.specs.Counts.{Countable, NodesChecked};
-
-// What checking answers: how many nodes the table has, or the refusal.
-pub enum Checked {
-    Accepted(usize),
-    Refused(Refusal),
-}
 
 // "Tests 1; then each node upward for 2, 3, 4; then 5."
 pub fn check(table: &[u8]) -> Checked

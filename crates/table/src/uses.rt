@@ -1,6 +1,6 @@
 // How often each node is an operand, counted in a lent array, and test 5 on the counts (document 01, "The recipe table").
 
-use super::Checked;
+use rules::Checked;
 use rules::Node;
 use rules::Reason;
 use rules::Refusal;
@@ -8,9 +8,8 @@ ghost use mathlib.Core.Path.{_≡_};
 ghost use Prim.Native.Nat.{_-_, _≤_};
 ghost use mathlib.Core.List.{[], _∷_};
 ghost use lib.ListN.{length};
-ghost use Rattle.rules.specs.Refusals.{lowestRefusal};
+ghost use Rattle.rules.specs.Refusals.{lowestRefusal, checkedBy};
 ghost use Rattle.rules.specs.Table.{operandsOf};
-ghost use Rattle.table.specs.Checking.{checkedBy};
 ghost use Rattle.table.specs.Counts.{countTest, counted, Room};
 
 // Each operand of the node is used once more.

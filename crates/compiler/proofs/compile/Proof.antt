@@ -2,8 +2,8 @@
 use native.Mathlib.Omega.{arith}
 use borrow.Author.Needs.{needs}
 use mathlib.Core.Path.{_≡_, sym, _∙_}
+use Rattle.rules.specs.declared.Checked.the-variants.{Accepted}
 use Rattle.table.specs.Checking.{checkAnswer}
-use Rattle.table.specs.declared.Checked.the-variants.{Accepted}
 use Rattle.table.proofs.Acceptance.{last-node}
 use Rattle.compiler.proofs.Compiling.{last-measurable, last-emittable, table-refused, buffer-refused, compiled}
 use Rattle.compiler.proofs.compile.Statement.{statement}

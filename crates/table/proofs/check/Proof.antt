@@ -8,10 +8,11 @@ use mathlib.Core.Option.{none}
 use mathlib.Core.Path.{_≡_, ap, sym, _∙_}
 use Rattle.rules.specs.Bytes.{wholeRecords}
 use Rattle.rules.specs.Limits.{tableLimit}
+use Rattle.rules.specs.Refusals.{checkedBy}
 use Rattle.rules.proofs.Sizes.{whole, whole-means, not-whole-none, not-whole-many, not-whole-part}
-use Rattle.table.specs.Checking.{checkedBy}
+use Rattle.rules.proofs.Tests.{checked-accepted, checked-refused}
 use Rattle.table.proofs.Tally.{none-counted, counted-tests}
-use Rattle.table.proofs.Walk.{checked-accepted, checked-refused, check-size, check-node, check-uses}
+use Rattle.table.proofs.Walk.{check-size, check-node, check-uses}
 use Rattle.table.proofs.check.Statement.{statement}
 use Rattle.table.proofs.check.Tie as tie
 
