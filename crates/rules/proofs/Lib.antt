@@ -2,9 +2,11 @@ pub mod Along
 pub mod CodeBytes
 pub mod Completeness
 pub mod Computing
+pub mod Counted
 pub mod Demand
 pub mod Foreign
 pub mod Holding
+pub mod Instructions
 pub mod Lookup
 pub mod Order
 pub mod Path

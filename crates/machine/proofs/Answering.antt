@@ -1,0 +1,73 @@
+-- What running answers and leaves, by the first of its tests that refuses (`rules`, `specs/Running`).
+--
+--   status-refused, stack-refused, code-refused
+--              the tests 7, 8, and 9 to 12
+--   ran        none refuses
+--   runnable   then the code and the stack are of the sizes that a run asks
+--
+-- Assumes nothing.
+use Prim.Native.Nat.{ℕ, _≤_, _<_}
+use native.Mathlib.Omega.{arith}
+use borrow.Author.Tests.{lt-ltb, le-ltb, le-leb, lt-leb}
+use lib.Dec.{ltb, leb}
+use lib.ListN.{length, drop, replicate}
+use mathlib.Core.Bool.{true, false}
+use mathlib.Core.List.{List, _∷_, _++_}
+use mathlib.Core.Option.{none, some}
+use mathlib.Core.Path.{_≡_, refl, sym, _∙_}
+use Rattle.rules.specs.Answers.{statusNumbered}
+use Rattle.rules.specs.Bytes.{records}
+use Rattle.rules.specs.CodeBytes.{instructions, codeTests}
+use Rattle.rules.specs.Limits.{codeLimit, stackBytes}
+use Rattle.rules.specs.Refusals.{unless, firstRefusal, checkedBy}
+use Rattle.rules.specs.Run.{runs}
+use Rattle.rules.specs.Running.{runTests, refusedAnswer, runAnswer, runLeaves}
+use Rattle.rules.specs.Schedule.{asks}
+use Rattle.rules.specs.declared.Checked.the-variants.{Accepted, Refused}
+use Rattle.rules.specs.declared.Reason.the-variants.{Status, StackBuffer, CodeSize}
+use Rattle.rules.specs.declared.Refusal.{Refusal}
+use Rattle.rules.proofs.Sizes.{whole-means}
+use Rattle.rules.proofs.Tests.{unless-passed, first-none, checked-accepted, checked-refused}
+use Rattle.machine.specs.Runs.{Runnable}
+use Rattle.machine.proofs.CodeWalk.{checkAnswer}
+
+module _ (status : ℕ) (code schedule stack : List ℕ) where
+  -- the answer and the stack buffer after a refusal
+  abbrev Refuses : Refusal → Type 0
+  Refuses r = (refusedAnswer r ≡ runAnswer status code schedule stack) × (stack ≡ runLeaves status code stack)
+
+  by-tests : {r : Refusal} → firstRefusal (runTests status code stack) ≡ some r → Refuses r
+  unfolding runAnswer runLeaves
+  by-tests e = (rw (e, runAnswer), rw (e, runLeaves))
+
+  pub status-refused : 1 < status → Refuses (record { reason = Status; place = 0 })
+  unfolding runTests firstRefusal unless
+  status-refused wrong = by-tests (rw (le-ltb status 2 wrong))
+
+  module _ (right : status ≤ 1) where
+    pub stack-refused : length stack < stackBytes → Refuses (record { reason = StackBuffer; place = 0 })
+    unfolding runTests firstRefusal unless
+    stack-refused short = by-tests (rw (lt-ltb status 2 (omega arith), lt-leb stackBytes (length stack) short))
+
+    module _ (room : stackBytes ≤ length stack) where
+      then-code : firstRefusal (runTests status code stack) ≡ firstRefusal (codeTests code)
+      unfolding runTests firstRefusal unless
+      then-code = rw (lt-ltb status 2 (omega arith), le-leb stackBytes (length stack) room)
+
+      pub code-refused : {r : Refusal} → checkAnswer code ≡ Refused r → Refuses r
+      code-refused e = by-tests (then-code ∙ checked-refused (records code) (firstRefusal (codeTests code)) e)
+
+      module _ {n : ℕ} (accepted : checkAnswer code ≡ Accepted n) where
+        passed : firstRefusal (codeTests code) ≡ none
+        passed = checked-accepted (firstRefusal (codeTests code)) accepted .0
+
+        pub ran : (runs (instructions code) (asks schedule) (statusNumbered status) ≡ runAnswer status code schedule stack)
+            × (replicate stackBytes 0 ++ drop stackBytes stack ≡ runLeaves status code stack)
+        unfolding runAnswer runLeaves
+        ran = (rw (then-code, passed, runAnswer), rw (then-code, passed, runLeaves))
+
+        pub runnable : Runnable code stack
+        unfolding codeTests
+        runnable =
+            let (sized, later) = first-none _ _ passed in
+            record { few = whole-means codeLimit code (unless-passed _ CodeSize 0 sized) .few; room = room }

@@ -1,0 +1,13 @@
+pub mod Answering
+pub mod AtLength
+pub mod Carrying
+pub mod CodeWalk
+pub mod InstructionTests
+pub mod Opcodes
+pub mod Removing
+pub mod Stacked
+pub mod Stepping
+pub mod Stores
+pub mod Tags
+pub mod Turns
+pub mod Underway

@@ -1,0 +1,110 @@
+-- Opcodes by their numbers, and the instruction of a record by its opcode.
+--
+--   Known, opcode-known     there is an opcode of each number from 1 to 8
+--   opcode-unknown, opcode-other
+--                           and of no other, nor of one that differs from each
+--   opcode-at               the opcode of a record, by its first byte
+--   instruction-of-opcode   the instruction of a record, by its opcode
+--   instruction-of-no-opcode
+--                           and where it has none
+--   operand-other           without an opcode no operand is refused
+--   target-within, target-low, target-other
+--                           a target above the address, one that is not, and an opcode that has none
+--
+-- Assumes nothing.
+use Prim.Native.Nat.{ℕ, zero, suc, _*_, _≤_, _<_}
+use native.Mathlib.Decide.{decLt}
+use native.Mathlib.Omega.{arith}
+use borrow.Author.Tests.{lt-ltb, le-ltb}
+use lib.Dec.{ltb, leb}
+use mathlib.Core.Bool.{true}
+use mathlib.Core.List.{List}
+use mathlib.Core.Option.{none, some}
+use mathlib.Core.Path.{_≡_, refl, ap, sym, _∙_}
+use Rattle.rules.specs.Bytes.{byteAt}
+use Rattle.rules.specs.CodeBytes.{OpcodeRow, opcodes, opcodeNumbered, opcodeAt, operandAt, instructionAt, targetFits}
+use Rattle.rules.specs.CodeBytes.Form.{Target}
+use Rattle.rules.specs.declared.Instruction.the-variants.{Throw}
+use Rattle.rules.proofs.Lookup.{found-below, missing-past}
+use Rattle.machine.specs.Reading.{operandFitsAt, targetFitsAt}
+
+-- ---- opcodes
+
+pub record Known (opcode : ℕ) : Type 0 where
+  pub row : OpcodeRow
+  pub found : opcodeNumbered opcode ≡ some row
+
+pub opcode-known : (opcode : ℕ) → 1 ≤ opcode → opcode ≤ 8 → Known opcode
+unfolding opcodes opcodeNumbered
+opcode-known zero l h = absurd (omega arith)
+opcode-known (suc opcode) l h =
+    let here = found-below opcodes opcode (omega arith) in
+    record { row = here .here; found = here .found }
+
+pub opcode-unknown : (opcode : ℕ) → (1 ≤ opcode → opcode ≤ 8 → ⊥) → opcodeNumbered opcode ≡ none
+unfolding opcodes opcodeNumbered
+opcode-unknown zero h = refl
+opcode-unknown (suc opcode) h = elim (decLt opcode 8) [
+  | yes below ↦ absurd (h (omega arith) (omega arith))
+  | no past ↦ missing-past opcodes opcode (omega arith)
+]
+
+low : (opcode : ℕ) → 1 ≤ opcode → opcode < 5 → (opcode ≡ 1 → ⊥) → (opcode ≡ 2 → ⊥) → (opcode ≡ 3 → ⊥) → (opcode ≡ 4 → ⊥) → ⊥
+low opcode l h push throw add pop = omega arith
+
+high : (opcode : ℕ) → 5 ≤ opcode → opcode ≤ 8 → (opcode ≡ 5 → ⊥) → (opcode ≡ 6 → ⊥) → (opcode ≡ 7 → ⊥) → (opcode ≡ 8 → ⊥) → ⊥
+high opcode l h mark unmark set reset = omega arith
+
+pub opcode-other : (opcode : ℕ) → (opcode ≡ 1 → ⊥) → (opcode ≡ 2 → ⊥) → (opcode ≡ 3 → ⊥) → (opcode ≡ 4 → ⊥)
+    → (opcode ≡ 5 → ⊥) → (opcode ≡ 6 → ⊥) → (opcode ≡ 7 → ⊥) → (opcode ≡ 8 → ⊥) → opcodeNumbered opcode ≡ none
+opcode-other opcode push throw add pop mark unmark set reset =
+    opcode-unknown opcode (λ l h. elim (decLt opcode 5) [
+      | yes below ↦ low opcode l below push throw add pop
+      | no above ↦ high opcode (not-below opcode above) h mark unmark set reset
+    ]) where
+      not-below : (opcode : ℕ) → (opcode < 5 → ⊥) → 5 ≤ opcode
+      not-below opcode above = omega arith
+
+-- ---- instructions
+
+module _ (code : List ℕ) (a : ℕ) where
+  pub opcode-at : {byte opcode : ℕ} → byte ≡ byteAt code (8 * a) → byte ≡ opcode → opcodeAt code a ≡ opcodeNumbered opcode
+  unfolding opcodeAt
+  opcode-at read e = ap opcodeNumbered (sym read ∙ e)
+
+  pub instruction-of-opcode : {row : OpcodeRow} → opcodeAt code a ≡ some row
+      → instructionAt code a ≡ row .instruction (operandAt code a)
+  unfolding instructionAt
+  instruction-of-opcode found = rw (found, instructionAt)
+
+  pub instruction-of-no-opcode : opcodeAt code a ≡ none → instructionAt code a ≡ Throw
+  unfolding instructionAt
+  instruction-of-no-opcode missing = rw (missing, instructionAt)
+
+-- ---- operands
+
+pub operand-other : (opcode word : ℕ) → opcodeNumbered opcode ≡ none → operandFitsAt opcode word ≡ true
+unfolding operandFitsAt
+operand-other opcode word missing = rw (missing, operandFitsAt)
+
+module _ (word a n : ℕ) where
+  pub target-within : a < word → leb word n ≡ targetFits Target word a n
+  unfolding targetFits
+  target-within h = rw (lt-ltb a word h)
+
+  pub target-low : word ≤ a → ltb a word ≡ targetFits Target word a n
+  unfolding targetFits
+  target-low h = rw (le-ltb a word h)
+
+  pub target-other : (opcode : ℕ) → (opcode ≡ 5 → ⊥) → (opcode ≡ 6 → ⊥) → targetFitsAt opcode word a n ≡ true
+  unfolding opcodes opcodeNumbered targetFits targetFitsAt
+  target-other zero mark unmark = refl
+  target-other (suc zero) mark unmark = refl
+  target-other (suc (suc zero)) mark unmark = refl
+  target-other (suc (suc (suc zero))) mark unmark = refl
+  target-other (suc (suc (suc (suc zero)))) mark unmark = refl
+  target-other (suc (suc (suc (suc (suc zero))))) mark unmark = absurd (mark refl)
+  target-other (suc (suc (suc (suc (suc (suc zero)))))) mark unmark = absurd (unmark refl)
+  target-other (suc (suc (suc (suc (suc (suc (suc zero))))))) mark unmark = refl
+  target-other (suc (suc (suc (suc (suc (suc (suc (suc zero)))))))) mark unmark = refl
+  target-other (suc (suc (suc (suc (suc (suc (suc (suc (suc k))))))))) mark unmark = refl

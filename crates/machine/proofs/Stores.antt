@@ -1,0 +1,166 @@
+-- What a record stored in the stack says, the record being the eight bytes of a tag and an operand.
+--
+--   sets-below       a run of stores leaves what lies before it
+--   sets-at          what stands at a place of the run
+--   drop-sets        it leaves what lies past it
+--   recorded         the stack with a record stored at place k
+--   recorded-tag, recorded-operand
+--                    the record's two fields, read back
+--   item-same        the item at k is what the record says
+--   item-below       an item below is as it was
+--   items-below      so are all the items below
+--   items-over       the item stands over those below
+--   beyond-same      what lies past the stack's bytes has not moved
+--   tagged-number    tag 0 with a number's residue says the number
+--   stored           all of it: the item was put
+--
+-- Assumes nothing.
+use Prim.Native.Nat.{ℕ, zero, suc, _+_, _*_, _/_, _%_, _^_, _≤_, _<_}
+use native.Mathlib.Omega.{arith}
+use lib.IntN.{ℤ}
+use lib.ListN.{length, getD, set, drop, length-set}
+use lib.Seq.{sets, getD-set-same, getD-set-other, drop-set-lt}
+use mathlib.Core.List.{List, [], _∷_}
+use mathlib.Core.Logic.{_≢_}
+use mathlib.Core.Path.{_≡_, refl, sym, ap, _∙_}
+use mir.Syntax.{w32}
+use mir.Val.{SFits}
+use mir.Facts.{toZ-ofZ}
+use Rattle.rules.specs.Bytes.{byteAt, halfAt, wordAt, wordBytes}
+use Rattle.rules.specs.CodeBytes.{instructionRecord}
+use Rattle.rules.specs.Limits.{itemLimit, stackBytes}
+use Rattle.rules.specs.Number.{residue}
+use Rattle.rules.specs.declared.Item.{Item}
+use Rattle.rules.specs.declared.Item.the-variants.{Number}
+use Rattle.record.proofs.Signed.{signed-toZ, residue-ofZ}
+use Rattle.machine.specs.Items.{itemTagged, itemAt, itemsOf, Stored}
+
+-- ---- runs of stores
+
+module _ {ℓ} {A : Type ℓ} where
+  pub sets-below : (l : List A) (i : ℕ) (vs : List A) (j : ℕ) (d : A) → j < i → getD (sets l i vs) j d ≡ getD l j d
+  sets-below l i [] j d h = refl
+  sets-below l i (v ∷ vs) j d h =
+      let apart : j ≢ i = λ e. omega arith in
+      let below : j < suc i = omega arith in
+      sets-below (set l i v) (suc i) vs j d below ∙ getD-set-other l i j v d apart
+
+  pub sets-at : (l : List A) (i : ℕ) (vs : List A) (n : ℕ) (d : A) → n < length vs → i + length vs ≤ length l
+      → getD (sets l i vs) (i + n) d ≡ getD vs n d
+  sets-at l i [] n d h room = absurd (omega arith)
+  sets-at l i (v ∷ vs) zero d h room =
+      let here : i + 0 ≡ i = omega arith in
+      let first : i < suc i = omega arith in
+      let inside : i < length l = omega arith in
+      rw here (sets-below (set l i v) (suc i) vs i d first ∙ getD-set-same l i v d inside)
+  sets-at l i (v ∷ vs) (suc n) d h room =
+      let there : i + suc n ≡ suc i + n = omega arith in
+      let rest : n < length vs = omega arith in
+      let fits : suc i + length vs ≤ length (set l i v) = simp length-set (omega arith) in
+      rw there (sets-at (set l i v) (suc i) vs n d rest fits)
+
+  pub drop-sets : (n : ℕ) (l : List A) (i : ℕ) (vs : List A) → i + length vs ≤ n → drop n (sets l i vs) ≡ drop n l
+  drop-sets n l i [] h = refl
+  drop-sets n l i (v ∷ vs) h =
+      let below : i < n = omega arith in
+      let rest : suc i + length vs ≤ n = omega arith in
+      drop-sets n (set l i v) (suc i) vs rest ∙ drop-set-lt n l i v below
+
+-- ---- a record at place k
+
+abbrev pub recorded : List ℕ → ℕ → ℕ → ℕ → List ℕ
+recorded stack k tag operand = sets stack (8 * k) (instructionRecord tag operand)
+
+length-record : (tag operand : ℕ) → length (instructionRecord tag operand) ≡ 8
+unfolding instructionRecord wordBytes
+length-record tag operand = refl
+
+-- the bytes of a word, put together again
+word-whole : (word : ℕ) → word < 2 ^ 32
+    → word % 256 + 256 * (word / 256 % 256) + 65536 * (word / 65536 % 256 + 256 * (word / 16777216 % 256)) ≡ word
+word-whole word h =
+    let second : word / 256 ≡ word / 256 % 256 + 256 * (word / 65536) = omega arith in
+    let third : word / 65536 ≡ word / 65536 % 256 + 256 * (word / 16777216) = omega arith in
+    let fourth : word / 16777216 % 256 ≡ word / 16777216 = omega arith in
+    omega (arith, second, third, fourth)
+
+module _ (stack : List ℕ) (k tag operand : ℕ) (room : 8 * k + 7 < length stack) where
+  recorded-byte : (n : ℕ) → n < 8 → byteAt (recorded stack k tag operand) (8 * k + n) ≡ byteAt (instructionRecord tag operand) n
+  recorded-byte n h =
+      let inside : n < length (instructionRecord tag operand) = simp length-record h in
+      let fits : 8 * k + length (instructionRecord tag operand) ≤ length stack = simp length-record (omega arith) in
+      sets-at stack (8 * k) (instructionRecord tag operand) n 0 inside fits
+
+  pub recorded-tag : byteAt (recorded stack k tag operand) (8 * k) ≡ tag
+  unfolding instructionRecord
+  recorded-tag =
+      let here : 8 * k ≡ 8 * k + 0 = omega arith in
+      ap (byteAt (recorded stack k tag operand)) here ∙ recorded-byte 0 (omega arith)
+
+  pub recorded-operand : operand < 2 ^ 32 → wordAt (recorded stack k tag operand) (8 * k + 4) ≡ operand
+  unfolding wordAt halfAt instructionRecord wordBytes
+  recorded-operand h =
+      let five : 8 * k + 4 + 1 ≡ 8 * k + 5 = omega arith in
+      let six : 8 * k + 4 + 2 ≡ 8 * k + 6 = omega arith in
+      let seven : 8 * k + 6 + 1 ≡ 8 * k + 7 = omega arith in
+      rw six
+      (rw (five, seven)
+      (rw (
+        recorded-byte 4 (omega arith),
+        recorded-byte 5 (omega arith),
+        recorded-byte 6 (omega arith),
+        recorded-byte 7 (omega arith),
+      )
+      (word-whole operand h)))
+
+  pub item-same : operand < 2 ^ 32 → itemAt (recorded stack k tag operand) k ≡ itemTagged tag operand
+  unfolding itemAt
+  item-same h = rw (recorded-tag, recorded-operand h)
+
+  byte-below : (i : ℕ) → i < 8 * k → byteAt (recorded stack k tag operand) i ≡ byteAt stack i
+  byte-below i = sets-below stack (8 * k) (instructionRecord tag operand) i 0
+
+  pub item-below : (j : ℕ) → j < k → itemAt (recorded stack k tag operand) j ≡ itemAt stack j
+  unfolding itemAt wordAt halfAt
+  item-below j h =
+      rw (
+        byte-below (8 * j) (omega arith),
+        byte-below (8 * j + 4) (omega arith),
+        byte-below (8 * j + 4 + 1) (omega arith),
+        byte-below (8 * j + 4 + 2) (omega arith),
+        byte-below (8 * j + 4 + 2 + 1) (omega arith),
+      )
+
+  pub items-below : (h : ℕ) → h ≤ k → itemsOf (recorded stack k tag operand) h ≡ itemsOf stack h
+  unfolding itemsOf
+  items-below zero l = refl
+  items-below (suc h) l = rw (item-below h (omega arith), items-below h (omega arith))
+
+  pub items-over : operand < 2 ^ 32 → itemsOf (recorded stack k tag operand) (k + 1) ≡ itemTagged tag operand ∷ itemsOf stack k
+  unfolding itemsOf
+  items-over h =
+      let next : k + 1 ≡ suc k = omega arith in
+      let all : k ≤ k = omega arith in
+      rw next (rw (item-same h, items-below k all))
+
+pub beyond-same : (stack : List ℕ) (k tag operand : ℕ) → k < itemLimit
+    → drop stackBytes (recorded stack k tag operand) ≡ drop stackBytes stack
+beyond-same stack k tag operand h =
+    let below : 8 * k + length (instructionRecord tag operand) ≤ stackBytes = simp length-record (omega arith) in
+    drop-sets stackBytes stack (8 * k) (instructionRecord tag operand) below
+
+-- ---- an item put
+
+pub tagged-number : {n : ℤ} → SFits w32 n → itemTagged 0 (residue n) ≡ Number n
+unfolding itemTagged
+tagged-number fits = ap Number (sym (signed-toZ _) ∙ rw (← residue-ofZ fits) (toZ-ofZ fits))
+
+pub stored : {stack : List ℕ} {k : ℕ} {item : Item} {after : List ℕ} (tag operand : ℕ)
+    → stackBytes ≤ length stack → k < itemLimit → operand < 2 ^ 32
+    → itemTagged tag operand ≡ item → after ≡ recorded stack k tag operand → Stored stack k item after
+stored {stack} {k} {item} {after} tag operand room place small said e =
+    let inside : 8 * k + 7 < length stack = omega arith in
+    record {
+      items = rw (e, items-over stack k tag operand inside small, said);
+      beyond = rw e (beyond-same stack k tag operand place);
+    }

@@ -1,0 +1,81 @@
+-- `machine::state::Machine::pop` meets its contract: a number is dropped, and there is no rule for another item or none. Assumes
+-- nothing.
+use native.Mathlib.Omega.{arith}
+use borrow.Author.Needs.{needs}
+use mathlib.Core.Path.{sym, _∙_}
+use Rattle.machine.proofs.Carrying.{pop-none, pop-other, popped}
+use Rattle.machine.proofs.state.Machine.pop.Statement.{statement}
+use Rattle.machine.proofs.state.Machine.pop.Tie as tie
+
+no-rule-requires : tie.Need-no-rule-requires
+no-rule-requires c κs = search needs
+
+returns : tie.Need-returns
+returns c =
+    let s = c .before .before .before in
+    rw (c .no-rule .ensures) (pop-none (s .args .stack .now) (s .args .self) (c .before .if1 .taken))
+
+sub-at : tie.Need-sub-at
+sub-at c = search needs
+
+at-requires : tie.Need-at-requires
+at-requires c κs = search needs
+
+enum-told : tie.Need-enum-told
+enum-told c = search needs
+
+no-rule-requires-2 : tie.Need-no-rule-requires-2
+no-rule-requires-2 c κs = search needs
+
+same-length : tie.Need-same-length
+same-length c = search needs
+
+returns-2 : tie.Need-returns-2
+returns-2 c =
+    let top = c .before .before in
+    let tested = top .before .before in
+    let s = tested .before .before in
+    rw (c .no-rule2 .ensures)
+    (pop-other (s .args .stack .now) (s .args .self) (omega (arith, tested .if1 .left))
+    (top .at .ensures)
+    (c .before .match .keys2))
+
+add-onward : tie.Need-add-onward
+add-onward c = search needs
+
+sub-onward : tie.Need-sub-onward
+sub-onward c = search needs
+
+onward-requires : tie.Need-onward-requires
+onward-requires c κs = search needs
+
+same-length-2 : tie.Need-same-length-2
+same-length-2 c = search needs
+
+returns-3 : tie.Need-returns-3
+returns-3 c =
+    let number = c .before .before in
+    let top = number .before .before in
+    let tested = top .before .before in
+    let s = tested .before .before in
+    rw (c .onward .ensures)
+    (popped (s .args .stack .now) (s .args .self) (omega (arith, tested .if1 .left))
+    (sym (number .enum-told .given .1) ∙ top .at .ensures))
+
+pub pop-spec : {M : Type 1} → statement M
+pop-spec =
+    tie.close
+    (tie.spec
+    no-rule-requires
+    returns
+    sub-at
+    at-requires
+    enum-told
+    no-rule-requires-2
+    same-length
+    returns-2
+    add-onward
+    sub-onward
+    onward-requires
+    same-length-2
+    returns-3)

@@ -1,0 +1,200 @@
+-- `machine::steps::repeat` meets its contract. The invariant of both loops: what is left of the run is the whole of it, from where
+-- the loop began. The measure is how many steps are left. Assumes nothing.
+use Prim.Native.Nat.{_-_}
+use native.Mathlib.Omega.{arith}
+use borrow.Author.Needs.{needs}
+use mathlib.Core.Bool.{false}
+use mathlib.Core.Path.{_≡_, refl, sym, ap, _∙_}
+use Rattle.rules.specs.CodeBytes.{instructions}
+use Rattle.rules.specs.Limits.{stepLimit}
+use Rattle.rules.specs.Run.{runs}
+use Rattle.rules.specs.Schedule.{asks}
+use Rattle.machine.specs.States.{AtInstruction}
+use Rattle.machine.proofs.Underway.{Underway, GoesOn, rest, begun, joined}
+use Rattle.machine.proofs.Turns.{whole-run, at-the-length, at-an-instruction, limit-at-an-instruction, refused-at-an-instruction, stepped, nothing-to-unwind, limit-unwinding, an-item-to-unwind, unwound}
+use Rattle.machine.proofs.steps.repeat.Statement.{statement}
+use Rattle.machine.proofs.steps.repeat.Tie as tie
+
+abbrev Inv-loop : tie.InvT-loop
+Inv-loop code schedule stack n machine₀ machine = Underway (instructions code) (asks schedule) stack stack machine₀ machine
+
+abbrev μ-loop : tie.MeasureT-loop
+μ-loop code schedule stack n machine₀ machine = stepLimit - machine .steps
+
+abbrev Inv-run : tie.InvT-run
+Inv-run code schedule stack₀ n machine₀ stack machine = Underway (instructions code) (asks schedule) stack₀ stack machine₀ machine × (machine .unwinding ≡ false)
+
+abbrev μ-run : tie.MeasureT-run
+μ-run code schedule stack₀ n machine₀ stack machine = stepLimit - machine .steps
+
+-- ---- what is known on the way
+
+-- what is left of the run at the beginning is all of it
+whole : (c : tie.After-new Inv-loop μ-loop Inv-run μ-run) → let s = c .before .before .before .before .args in
+    rest (instructions (s .code .now)) (asks (s .schedule .now)) (s .stack .now) (c .new .result) ≡ runs (instructions (s .code .now)) (asks (s .schedule .now)) (s .status)
+whole c = let s = c .before .before .before .before .args in rw (c .new .ensures) (whole-run (s .code .now) (s .schedule .now) (s .stack .now) (s .status))
+
+here : (c : tie.Else1 Inv-loop μ-loop Inv-run μ-run) → AtInstruction (c .before .before .before .before .before .before .before .args .code .now) (c .before .before .run .machine)
+here c = record { running = c .before .before .run .inv .1; below = c .if1 .left }
+
+on : (c : tie.After-known-told Inv-loop μ-loop Inv-run μ-run) → GoesOn (c .before .before .before .before .before .before .before .before .before .before .before .run .inv .0) (c .before .before .before .before .before .step .last .1 .1 .1 .0) (c .before .next .given .0 .0)
+on c =
+    let s = c .before .before .before .before .before .before .before .before .before .before .before .before .before .before .before .before .args in
+    let does = rw (c .before .next .given .1) at (c .before .before .before .before .before .step .ensures) in
+    stepped (s .code .now) (s .schedule .now) (c .before .before .before .before .before .before .before .before .before .before .before .run .inv .0) (here (c .before .before .before .before .before .before .before .before .before)) (c .before .before .before .before .before .before .before .if2 .left) (c .before .before .before .before .before .step .kept .1 .1 .1 .0) does
+
+-- where the machine unwinds, seen from the beginning
+within : (c : tie.At-loop Inv-loop μ-loop Inv-run μ-run) → let s = c .before .before .before .before .before .before .before .before .before .before .before .before .before .before .before .before .before .args in
+    Underway (instructions (s .code .now)) (asks (s .schedule .now)) (s .stack .now) (c .before .before .before .before .before .before .step .last .1 .1 .1 .0) (c .before .before .before .before .before .before .before .before .before .before .before .before .before .new .result) (c .loop .machine)
+within c = joined (on (c .before) .1) (c .loop .inv)
+
+-- ---- the outer loop
+
+new-requires : tie.Need-new-requires Inv-loop μ-loop Inv-run μ-run
+new-requires c κs = search needs
+
+run-holds : tie.Need-run-holds Inv-loop μ-loop Inv-run μ-run
+run-holds c = rw (c .new .ensures) (begun (c .before .before .before .before .args .stack .now) (omega arith) (omega arith) (omega arith), refl)
+
+at-length-requires : tie.Need-at-length-requires Inv-loop μ-loop Inv-run μ-run
+at-length-requires c κs = omega (arith, c .before .before .before .before .before .before .before .before .pre .room, c .before .before .before .run .inv .0 .size)
+
+too-many-steps-requires : tie.Need-too-many-steps-requires Inv-loop μ-loop Inv-run μ-run
+too-many-steps-requires c κs = search needs
+
+step-requires : tie.Need-step-requires Inv-loop μ-loop Inv-run μ-run
+step-requires c κs =
+    let s = c .before .before .before .before .before .before .before .before .before .before in
+    at-an-instruction (s .args .code .now) (s .args .schedule .now) (c .before .before .before .before .before .run .inv .0) (here (c .before .before .before)) (c .before .if2 .left) (s .pre)
+
+enum-known-next : tie.Need-enum-known-next Inv-loop μ-loop Inv-run μ-run
+enum-known-next c = search needs
+
+enum-known-refusal : tie.Need-enum-known-refusal Inv-loop μ-loop Inv-run μ-run
+enum-known-refusal c = search needs
+
+run-less : tie.Need-run-less Inv-loop μ-loop Inv-run μ-run
+run-less c = omega (arith, on (c .before .before) .0, c .before .loop .inv .later, c .before .loop .inv .steps)
+
+run-again : tie.Need-run-again Inv-loop μ-loop Inv-run μ-run
+run-again c = (joined (on (c .before .before) .1) (c .before .loop .inv), c .loop-test .left)
+
+-- ---- the inner loop
+
+loop-holds : tie.Need-loop-holds Inv-loop μ-loop Inv-run μ-run
+loop-holds c = let so-far = on c .1 in begun _ (so-far .steps) (so-far .reached) (so-far .height)
+
+too-many-steps-requires-2 : tie.Need-too-many-steps-requires-2 Inv-loop μ-loop Inv-run μ-run
+too-many-steps-requires-2 c κs = search needs
+
+unwind-requires : tie.Need-unwind-requires Inv-loop μ-loop Inv-run μ-run
+unwind-requires c κs =
+    let s = c .before .before .before .before .before .before .before .before .before .before .before .before .before .before .before .before .before .before .before .before .before .before .before in
+    an-item-to-unwind (s .args .code .now) (s .args .schedule .now) (within (c .before .before .before .before .before .before)) (c .before .before .before .before .before .loop-test .taken) (c .before .before .before .if3 .left) (c .before .if4 .left) (s .pre)
+
+further : (c : tie.After-unwind Inv-loop μ-loop Inv-run μ-run) → GoesOn (c .before .before .before .before .before .before .before .loop .inv) (c .before .before .before .before .before .before .before .before .before .before .before .before .before .step .last .1 .1 .1 .0) (c .unwind .result)
+further c =
+    let s = c .before .before .before .before .before .before .before .before .before .before .before .before .before .before .before .before .before .before .before .before .before .before .before .before .args in
+    unwound (s .code .now) (s .schedule .now) (c .before .before .before .before .before .before .before .loop .inv) (c .before .before .before .before .before .before .loop-test .taken) (c .before .before .before .before .if3 .left) (c .before .before .if4 .left) (c .unwind .ensures)
+
+loop-less : tie.Need-loop-less Inv-loop μ-loop Inv-run μ-run
+loop-less c = omega (arith, further c .0, further c .1 .steps)
+
+loop-again : tie.Need-loop-again Inv-loop μ-loop Inv-run μ-run
+loop-again c = further c .1
+
+-- ---- the ends
+
+same-length : tie.Need-same-length Inv-loop μ-loop Inv-run μ-run
+same-length c = c .before .before .before .before .run .inv .0 .size
+
+returns : tie.Need-returns Inv-loop μ-loop Inv-run μ-run
+returns c =
+    let s = c .before .before .before .before .before .before .before .before .before .args in
+    let so-far = c .before .before .before .before .run .inv in
+    record {
+      answered = at-the-length (s .code .now) (s .schedule .now) (so-far .0) (so-far .1) (c .before .before .if1 .taken) (c .at-length .ensures) ∙ whole (c .before .before .before .before .before);
+      beyond = so-far .0 .beyond;
+    }
+
+same-length-2 : tie.Need-same-length-2 Inv-loop μ-loop Inv-run μ-run
+same-length-2 c = c .before .before .before .before .before .run .inv .0 .size
+
+returns-2 : tie.Need-returns-2 Inv-loop μ-loop Inv-run μ-run
+returns-2 c =
+    let s = c .before .before .before .before .before .before .before .before .before .before .args in
+    let so-far = c .before .before .before .before .before .run .inv .0 in
+    record {
+      answered = rw (c .too-many-steps .ensures) (limit-at-an-instruction (s .code .now) (s .schedule .now) so-far (here (c .before .before .before)) (c .before .if2 .taken) ∙ whole (c .before .before .before .before .before .before));
+      beyond = so-far .beyond;
+    }
+
+same-length-3 : tie.Need-same-length-3 Inv-loop μ-loop Inv-run μ-run
+same-length-3 c = c .before .before .before .before .before .step .kept .1 .1 .1 .0 ∙ c .before .before .before .before .before .before .before .before .before .before .before .run .inv .0 .size
+
+returns-3 : tie.Need-returns-3 Inv-loop μ-loop Inv-run μ-run
+returns-3 c =
+    let s = c .before .before .before .before .before .before .before .before .before .before .before .before .before .before .before .before .args in
+    let so-far = c .before .before .before .before .before .before .before .before .before .before .before .run .inv .0 in
+    let does = rw (c .before .refusal .given .1) at (c .before .before .before .before .before .step .ensures) in
+    record {
+      answered = refused-at-an-instruction (s .code .now) (s .schedule .now) so-far (here (c .before .before .before .before .before .before .before .before .before)) (c .before .before .before .before .before .before .before .if2 .left) does ∙ whole (c .before .before .before .before .before .before .before .before .before .before .before .before);
+      beyond = does .beyond ∙ so-far .beyond;
+    }
+
+same-length-4 : tie.Need-same-length-4 Inv-loop μ-loop Inv-run μ-run
+same-length-4 c = within (c .before .before .before) .size
+
+returns-4 : tie.Need-returns-4 Inv-loop μ-loop Inv-run μ-run
+returns-4 c =
+    let s = c .before .before .before .before .before .before .before .before .before .before .before .before .before .before .before .before .before .before .before .before .args in
+    let so-far = within (c .before .before .before) in
+    record {
+      answered = nothing-to-unwind (s .code .now) (s .schedule .now) so-far (c .before .before .loop-test .taken) (c .if3 .taken) ∙ whole (c .before .before .before .before .before .before .before .before .before .before .before .before .before .before .before .before);
+      beyond = so-far .beyond;
+    }
+
+same-length-5 : tie.Need-same-length-5 Inv-loop μ-loop Inv-run μ-run
+same-length-5 c = within (c .before .before .before .before .before .before) .size
+
+returns-5 : tie.Need-returns-5 Inv-loop μ-loop Inv-run μ-run
+returns-5 c =
+    let s = c .before .before .before .before .before .before .before .before .before .before .before .before .before .before .before .before .before .before .before .before .before .before .before .args in
+    let so-far = within (c .before .before .before .before .before .before) in
+    record {
+      answered = rw (c .too-many-steps2 .ensures) (limit-unwinding (s .code .now) (s .schedule .now) so-far (c .before .before .before .before .before .loop-test .taken) (c .before .before .before .if3 .left) (c .before .if4 .taken) ∙ whole (c .before .before .before .before .before .before .before .before .before .before .before .before .before .before .before .before .before .before .before));
+      beyond = so-far .beyond;
+    }
+
+pub repeat-spec : {M : Type 1} → statement M
+repeat-spec =
+    tie.close
+    (tie.spec
+    Inv-loop
+    μ-loop
+    Inv-run
+    μ-run
+    new-requires
+    run-holds
+    at-length-requires
+    too-many-steps-requires
+    step-requires
+    enum-known-next
+    enum-known-refusal
+    loop-holds
+    run-less
+    run-again
+    too-many-steps-requires-2
+    unwind-requires
+    loop-less
+    loop-again
+    same-length
+    returns
+    same-length-2
+    returns-2
+    same-length-3
+    returns-3
+    same-length-4
+    returns-4
+    same-length-5
+    returns-5)

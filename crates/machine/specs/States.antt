@@ -1,0 +1,101 @@
+-- The states of the rules (`rules`, `specs/Machine`) in a machine and its lent stack, and what the machine's functions ask and
+-- promise of them.
+--
+--   stateOf    the state that a machine and the bytes of its stack hold
+--   stepOf     what a step comes to, as the rules have it
+--   freshOf    the machine in which a run begins
+--   onwardOf, unwoundOf
+--              the machine after a step
+--   Counting   its counts let it take a step
+--   Ready      and its items and its address are within their limits
+--   AtInstruction
+--              it runs at an instruction of the code
+--   Steppable, Unwindable
+--              all that a step asks, running and unwinding
+--   Does       a step does what a rule says, and moves nothing past the stack's bytes
+--
+-- Assumes nothing.
+use Prim.Native.Nat.{ℕ, _+_, _≤_, _<_}
+use lib.ListN.{length, drop}
+use mathlib.Core.Bool.{Bool, false, cond}
+use mathlib.Core.List.{List}
+use mathlib.Core.Path.{_≡_}
+use Rattle.rules.specs.Bytes.{records}
+use Rattle.rules.specs.Limits.{instructionLimit, itemLimit, stackBytes, stepLimit}
+use Rattle.rules.specs.Machine as rules
+use Rattle.rules.specs.Machine.{State, Running, Unwinding}
+use Rattle.rules.specs.declared.Status.{Status}
+use Rattle.machine.specs.Items.{itemsOf}
+use Rattle.machine.specs.declared.state.Machine.{Machine}
+use Rattle.machine.specs.declared.step.Step.{Step}
+use Rattle.machine.specs.declared.step.Step.the-variants.{Next, Stuck}
+
+abbrev pub stateOf : List ℕ → Machine → State
+stateOf stack m = record {
+  mode = cond (m .unwinding) Unwinding (Running (m .address));
+  status = m .status;
+  items = itemsOf stack (m .height);
+  steps = m .steps;
+  reached = m .reached;
+}
+
+unfoldable pub stepOf : List ℕ → Step → rules.Step
+stepOf stack (Next m) = rules.Next (stateOf stack m)
+stepOf stack (Stuck r) = rules.Stuck r
+
+-- ---- the rules' `fresh`, `onward` and `unwound`
+
+abbrev pub freshOf : Status → Machine
+freshOf i = record { unwinding = false; address = 0; status = i; height = 0; steps = 0; reached = 0 }
+
+abbrev pub onwardOf : Machine → Bool → ℕ → Status → ℕ → Machine
+onwardOf m unwinding address status height = record {
+  unwinding = unwinding;
+  address = address;
+  status = status;
+  height = height;
+  steps = m .steps + 1;
+  reached = m .reached + 1;
+}
+
+abbrev pub unwoundOf : Machine → Bool → ℕ → Status → ℕ → Machine
+unwoundOf m unwinding address status height = record {
+  unwinding = unwinding;
+  address = address;
+  status = status;
+  height = height;
+  steps = m .steps + 1;
+  reached = m .reached;
+}
+
+-- ---- what a step asks
+
+pub record Counting (m : Machine) : Type 0 where
+  pub steps : m .steps < stepLimit
+  pub reached : m .reached ≤ m .steps
+
+pub record Ready (stack : List ℕ) (m : Machine) : Type 0 where
+  pub counting : Counting m
+  pub room : stackBytes ≤ length stack
+  pub height : m .height ≤ itemLimit
+  pub address : m .address < instructionLimit
+
+pub record AtInstruction (code : List ℕ) (m : Machine) : Type 0 where
+  pub running : m .unwinding ≡ false
+  pub below : m .address < records code
+
+pub record Steppable (code stack : List ℕ) (m : Machine) : Type 0 where
+  pub ready : Ready stack m
+  pub here : AtInstruction code m
+
+pub record Unwindable (stack : List ℕ) (m : Machine) : Type 0 where
+  pub counting : Counting m
+  pub room : stackBytes ≤ length stack
+  pub height : m .height ≤ itemLimit
+  pub some : 0 < m .height
+
+-- ---- what it promises
+
+pub record Does (rule : rules.Step) (stack : List ℕ) (step : Step) (after : List ℕ) : Type 0 where
+  pub ruled : stepOf after step ≡ rule
+  pub beyond : drop stackBytes after ≡ drop stackBytes stack

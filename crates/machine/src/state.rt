@@ -1,0 +1,73 @@
+// The state of the machine, apart from its items, which are kept in the lent stack (document 01, "One step of the machine").
+
+use rules::Status;
+ghost use mathlib.Core.Path.{_≡_};
+ghost use Rattle.machine.specs.States.{freshOf, onwardOf, unwoundOf, Counting};
+
+pub struct Machine {
+    // Unwinding, or else running at the address.
+    pub unwinding: bool,
+    pub address: usize,
+    pub status: Status,
+    // How many items the stack holds.
+    pub height: usize,
+    pub steps: usize,
+    pub reached: usize,
+}
+
+impl Machine {
+    // "A run takes at most 1,535 steps."
+    pub const STEPS: usize = 1535;
+    // "The stack holds .. 512 items at most", of eight bytes each.
+    pub const ITEMS: usize = 512;
+
+    pub const STACK_BYTES: usize = 4096;
+    // A code has at most 1,023 instructions, of eight bytes each.
+    pub const INSTRUCTIONS: usize = 1023;
+
+    pub const CODE_BYTES: usize = 8184;
+
+    // "A fresh state has address 0, the starting status, an empty stack and zero counts."
+    pub fn new(status: Status) -> Self
+        ensures { λ r. ⌜ r ≡ freshOf status ⌝ }
+    {
+        Self {
+            unwinding: false,
+            address: 0,
+            status,
+            height: 0,
+            steps: 0,
+            reached: 0,
+        }
+    }
+
+    // An instruction was carried out or cut: both counts grow.
+    pub fn onward(self, unwinding: bool, address: usize, status: Status, height: usize) -> Self
+        requires { ⌜ Counting self ⌝ }
+        ensures { λ r. ⌜ r ≡ onwardOf self unwinding address status height ⌝ }
+    {
+        Self {
+            unwinding,
+            address,
+            status,
+            height,
+            steps: self.steps + 1,
+            reached: self.reached + 1,
+        }
+    }
+
+    // An item was removed in unwinding: no instruction is reached.
+    pub fn unwound(self, unwinding: bool, address: usize, status: Status, height: usize) -> Self
+        requires { ⌜ Counting self ⌝ }
+        ensures { λ r. ⌜ r ≡ unwoundOf self unwinding address status height ⌝ }
+    {
+        Self {
+            unwinding,
+            address,
+            status,
+            height,
+            steps: self.steps + 1,
+            reached: self.reached,
+        }
+    }
+}

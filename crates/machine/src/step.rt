@@ -1,0 +1,54 @@
+// One step of the machine, running (document 01, "One step of the machine"). A state is handed to a step by value, and the next
+// state is handed back.
+
+use super::instruction;
+use super::state::Machine;
+use rules::Instruction;
+use rules::Item;
+use rules::Refusal;
+use rules::Status;
+ghost use mathlib.Core.Path.{_≡_};
+ghost use Rattle.rules.specs.CodeBytes.{instructions};
+ghost use Rattle.rules.specs.Machine as rules;
+ghost use Rattle.rules.specs.Schedule.{asks};
+ghost use Rattle.machine.specs.States.{stateOf, Steppable, Does};
+
+// What a step comes to: the next state, or a refused step.
+pub enum Step {
+    Next(Machine),
+    Stuck(Refusal),
+}
+
+impl Machine {
+    // A step of a state that runs at an instruction.
+    pub(crate) fn step(self, code: &[u8], schedule: &[u8], stack: &mut [u8]) -> Step
+        requires { ⌜ Steppable (now code) (now stack) self ⌝ }
+        ensures { λ r. ⌜ Does (rules.step (instructions (now (code .entry))) (asks (now (schedule .entry))) (stateOf (now (stack .entry)) self)) (now (stack .entry)) r (now (stack .exit)) ⌝ }
+    {
+        let present = self.status;
+        if self.cut(schedule) {
+            return Step::Next(self.onward(true, self.address, present, self.height));
+        }
+        match instruction::at(code, self.address) {
+            Instruction::Push(n) => self.push(stack, Item::Number(n), present),
+            Instruction::Throw => Step::Next(self.onward(true, self.address, present, self.height)),
+            Instruction::Add => self.add(stack),
+            Instruction::Pop => self.pop(stack),
+            Instruction::Mark(target) => self.push(stack, Item::Handler(target), present),
+            Instruction::Unmark(target) => self.unmark(stack, target),
+            Instruction::Set(status) => self.push(stack, Item::Saved(present), status),
+            Instruction::Reset => self.reset(stack),
+        }
+    }
+
+    // "If the status is unblocked and the schedule asks for a recall here."
+    fn cut(self, schedule: &[u8]) -> bool
+        ensures { λ r. ⌜ r ≡ rules.cuts (self .status) (asks (now (schedule .entry)) (self .reached)) ⌝ }
+    {
+        let status = self.status;
+        match status {
+            Status::Blocked => false,
+            Status::Unblocked => record::schedule::asks(schedule, self.reached),
+        }
+    }
+}

@@ -1,0 +1,45 @@
+// A run: the step repeated until it ends (document 01, "One step of the machine" and "Refusal numbers").
+
+use super::ends::too_many_steps;
+use super::state::Machine;
+use super::step::Step;
+use rules::Answer;
+use rules::End;
+use rules::Outcome;
+use rules::Status;
+ghost use Rattle.machine.specs.Runs.{Runnable, Ran};
+
+// "An end or 14 at the length comes before 15, 15 before a step." The loop is left with its end as its value.
+pub(crate) fn repeat(status: Status, code: &[u8], schedule: &[u8], stack: &mut [u8]) -> Answer
+    requires { ⌜ Runnable (now code) (now stack) ⌝ }
+    ensures { λ r. ⌜ Ran status (now (code .entry)) (now (schedule .entry)) (now (stack .entry)) r (now (stack .exit)) ⌝ }
+{
+    let length = code.len() / 8;
+    let mut machine = Machine::new(status);
+    let outcome = 'run: loop {
+        if length <= machine.address {
+            break machine.at_length(stack);
+        }
+        if machine.steps == Machine::STEPS {
+            break too_many_steps();
+        }
+        match machine.step(code, schedule, stack) {
+            Step::Next(next) => machine = next,
+            Step::Stuck(refusal) => break Outcome::Refused(refusal),
+        }
+        while machine.unwinding {
+            if machine.height == 0 {
+                break 'run Outcome::Ended(End::Throw);
+            }
+            if machine.steps == Machine::STEPS {
+                break 'run too_many_steps();
+            }
+            machine = machine.unwind(stack);
+        }
+    };
+    Answer {
+        outcome,
+        steps: machine.steps,
+        reached: machine.reached,
+    }
+}
