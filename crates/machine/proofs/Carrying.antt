@@ -29,7 +29,7 @@ use Rattle.rules.specs.declared.Status.{Status}
 use Rattle.machine.specs.Items.{itemAt, itemsOf, Stored}
 use Rattle.machine.specs.States.{stateOf, stepOf, onwardOf, Does}
 use Rattle.machine.specs.declared.state.Machine.{Machine}
-use Rattle.machine.specs.declared.step.Step.the-variants.{Next, Stuck}
+use Rattle.machine.specs.declared.step.Step.the-variants.{Next, Full, NoRule}
 use Rattle.machine.proofs.Stacked.{length-itemsOf, items-none, items-top, items-two}
 use Rattle.machine.proofs.Tags.{TaggedOneOf, not-number, not-handler, not-saved}
 
@@ -46,13 +46,13 @@ few-items (Saved i ∷ rest) otherwise f none few = refl
 
 module _ (stack : List ℕ) (m : Machine) where
   abbrev Refuses : Instruction → Type 0
-  Refuses x = Does (execute x (m .address) (stateOf stack m)) stack (Stuck (noRule (m .address))) stack
+  Refuses x = Does (execute x (m .address) (stateOf stack m)) stack m NoRule stack
 
   -- with this item at this height
   abbrev Reads : Item → ℕ → Type 0
   Reads x k = x ≡ itemAt stack k
 
-  refused : {rule : rules.Step} {r : Refusal} → rule ≡ rules.Stuck r → Does rule stack (Stuck r) stack
+  refused : {rule : rules.Step} → rule ≡ rules.Stuck (noRule (m .address)) → Does rule stack m NoRule stack
   unfolding stepOf
   refused e = record { ruled = sym e; beyond = refl }
 
@@ -68,15 +68,15 @@ module _ (stack : List ℕ) (m : Machine) where
 
   module _ (item : Item) (status : Status) where
     pub push-full : m .height ≡ itemLimit
-        → Does (push item (m .address) (stateOf stack m) status) stack (Stuck (record { reason = StackFull; place = m .address })) stack
-    unfolding push
+        → Does (push item (m .address) (stateOf stack m) status) stack m Full stack
+    unfolding push stepOf
     push-full e =
         let full : ltb (length (itemsOf stack (m .height))) itemLimit ≡ false =
         le-ltb (length (itemsOf stack (m .height))) itemLimit (omega (arith, e, length-itemsOf stack (m .height))) in
-        refused (rw full)
+        record { ruled = sym (rw full); beyond = refl }
 
     pub pushed : m .height < itemLimit → {after : List ℕ} → Stored stack (m .height) item after
-        → Does (push item (m .address) (stateOf stack m) status) stack (Next (onwardOf m false (m .address + 1) status (m .height + 1))) after
+        → Does (push item (m .address) (stateOf stack m) status) stack m (Next (onwardOf m false (m .address + 1) status (m .height + 1))) after
     unfolding push stepOf
     pushed h put =
         let room : ltb (length (itemsOf stack (m .height))) itemLimit ≡ true =
@@ -94,7 +94,7 @@ module _ (stack : List ℕ) (m : Machine) where
   pop-other h e tag = refused (other-top _ _ h e tag)
 
   pub popped : 1 ≤ m .height → {n : ℤ} → Reads (Number n) (m .height - 1)
-      → Does (execute Pop (m .address) (stateOf stack m)) stack (Next (onwardOf m false (m .address + 1) (m .status) (m .height - 1))) stack
+      → Does (execute Pop (m .address) (stateOf stack m)) stack m (Next (onwardOf m false (m .address + 1) (m .status) (m .height - 1))) stack
   unfolding execute stepOf withNumber
   popped h e = record { ruled = rw (items-top stack (m .height) h, ← e, withNumber); beyond = refl }
 
@@ -148,19 +148,19 @@ module _ (stack : List ℕ) (m : Machine) where
 
       module _ {after : List ℕ} where
         pub added : {k : ℤ} → Reads (Number k) (m .height - 2) → Stored stack (m .height - 2) (Number (sum k n)) after
-            → Does (execute Add (m .address) (stateOf stack m)) stack (Next (onwardOf m false (m .address + 1) (m .status) (m .height - 1))) after
+            → Does (execute Add (m .address) (stateOf stack m)) stack m (Next (onwardOf m false (m .address + 1) (m .status) (m .height - 1))) after
         unfolding execute withNumber stepOf
         added f put = record { ruled = rw (items-two stack (m .height) h, ← e, withNumber, ← f, replaced h put); beyond = put .beyond }
 
         module _ (put : Stored stack (m .height - 2) (Number n) after) where
           pub unmarked : (target : ℕ) {a : ℕ} → Reads (Handler a) (m .height - 2)
-              → Does (execute (Unmark target) (m .address) (stateOf stack m)) stack (Next (onwardOf m false target (m .status) (m .height - 1))) after
+              → Does (execute (Unmark target) (m .address) (stateOf stack m)) stack m (Next (onwardOf m false target (m .status) (m .height - 1))) after
           unfolding execute withNumber withHandler stepOf
           unmarked target f =
               record { ruled = rw (items-two stack (m .height) h, ← e, withNumber, ← f, withHandler, replaced h put); beyond = put .beyond }
 
           pub reset : {i : Status} → Reads (Saved i) (m .height - 2)
-              → Does (execute Reset (m .address) (stateOf stack m)) stack (Next (onwardOf m false (m .address + 1) i (m .height - 1))) after
+              → Does (execute Reset (m .address) (stateOf stack m)) stack m (Next (onwardOf m false (m .address + 1) i (m .height - 1))) after
           unfolding execute withNumber withSaved stepOf
           reset f =
               record { ruled = rw (items-two stack (m .height) h, ← e, withNumber, ← f, withSaved, replaced h put); beyond = put .beyond }

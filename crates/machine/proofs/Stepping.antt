@@ -32,7 +32,7 @@ use Rattle.machine.proofs.Underway.{step-running}
 abbrev pub unwinds : Machine → Machine
 unwinds m = onwardOf m true (m .address) (m .status) (m .height)
 
-pub thrown : (stack : List ℕ) (m : Machine) → Does (execute Throw (m .address) (stateOf stack m)) stack (Next (unwinds m)) stack
+pub thrown : (stack : List ℕ) (m : Machine) → Does (execute Throw (m .address) (stateOf stack m)) stack m (Next (unwinds m)) stack
 unfolding execute stepOf
 thrown stack m = record { ruled = refl; beyond = refl }
 
@@ -51,14 +51,14 @@ module _ {code : List ℕ} {m : Machine} (here : AtInstruction code m) (schedule
 module _ {code stack : List ℕ} {m : Machine} (ready : Steppable code stack m) (schedule : List ℕ) where
   -- the step of the rules
   abbrev Steps : Step → List ℕ → Type 0
-  Steps r after = Does (step (instructions code) (asks schedule) (stateOf stack m)) stack r after
+  Steps r after = Does (step (instructions code) (asks schedule) (stateOf stack m)) stack m r after
 
   pub cut : true ≡ cuts (m .status) (asks schedule (m .reached)) → Steps (Next (unwinds m)) stack
   unfolding atInstruction stepOf
   cut e = record { ruled = sym (at-its-instruction (ready .here) schedule stack ∙ rw (← e)); beyond = refl }
 
   pub carried-out : false ≡ cuts (m .status) (asks schedule (m .reached)) → {x : Instruction} → x ≡ instructionAt code (m .address)
-      → {r : Step} {after : List ℕ} → Does (execute x (m .address) (stateOf stack m)) stack r after → Steps r after
+      → {r : Step} {after : List ℕ} → Does (execute x (m .address) (stateOf stack m)) stack m r after → Steps r after
   unfolding atInstruction
   carried-out e f does = record {
     ruled = does .ruled ∙ sym (at-its-instruction (ready .here) schedule stack ∙ rw (← e, ← f));

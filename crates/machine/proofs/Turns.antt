@@ -2,8 +2,8 @@
 --
 --   at-the-length                   it runs at the length: the end, or 14
 --   at-an-instruction               it runs at an instruction, with steps left: a step can be taken
---   refused-at-an-instruction, stepped
---                                   and is refused, or taken
+--   full-at-an-instruction, no-rule-at-an-instruction, stepped
+--                                   and is refused, by 13 or 14, or taken
 --   limit-at-an-instruction         and with none left: 15
 --   nothing-to-unwind               it unwinds with no item: a throw
 --   an-item-to-unwind               with an item and steps left: a step can be taken
@@ -28,7 +28,8 @@ use Rattle.rules.specs.Schedule.{asks}
 use Rattle.rules.specs.declared.End.{End}
 use Rattle.rules.specs.declared.Outcome.{Outcome}
 use Rattle.rules.specs.declared.Outcome.the-variants.{Ended, Refused}
-use Rattle.rules.specs.declared.Refusal.{Refusal}
+use Rattle.rules.specs.declared.Reason.{Reason}
+use Rattle.rules.specs.declared.Reason.the-variants.{StackFull}
 use Rattle.rules.specs.declared.Status.{Status}
 use Rattle.rules.proofs.Counted.{Counted, unwound-counted}
 use Rattle.rules.proofs.Instructions.{instruction-missing}
@@ -36,7 +37,7 @@ use Rattle.machine.specs.Items.{itemsOf}
 use Rattle.machine.specs.Runs.{Runnable}
 use Rattle.machine.specs.States.{stateOf, stepOf, freshOf, AtInstruction, Steppable, Unwindable, Does}
 use Rattle.machine.specs.declared.state.Machine.{Machine}
-use Rattle.machine.specs.declared.step.Step.the-variants.{Next, Stuck}
+use Rattle.machine.specs.declared.step.Step.the-variants.{Next, Full, NoRule}
 use Rattle.machine.proofs.Stacked.{length-itemsOf, items-none}
 use Rattle.machine.proofs.Stepping.{counted}
 use Rattle.machine.proofs.Underway.{Underway, GoesOn, rest, ended, refused, out-of-steps, goes-on, step-running, step-unwinding}
@@ -77,13 +78,20 @@ module _ (code schedule : List ℕ) {stack₀ stack : List ℕ} {start m : Machi
         here = here;
       }
 
-      pub refused-at-an-instruction : {r : Refusal} {after : List ℕ}
-          → Does (step (instructions code) (asks schedule) (stateOf stack m)) stack (Stuck r) after → Answers (Refused r)
+      pub full-at-an-instruction : {after : List ℕ}
+          → Does (step (instructions code) (asks schedule) (stateOf stack m)) stack m Full after
+          → Answers (Refused (record { reason = StackFull; place = m .address }))
       unfolding stepOf
-      refused-at-an-instruction does = refused so-far left (sym (does .ruled))
+      full-at-an-instruction does = refused so-far left (sym (does .ruled))
+
+      pub no-rule-at-an-instruction : {after : List ℕ}
+          → Does (step (instructions code) (asks schedule) (stateOf stack m)) stack m NoRule after
+          → Answers (Refused (record { reason = Reason.NoRule; place = m .address }))
+      unfolding stepOf
+      no-rule-at-an-instruction does = refused so-far left (sym (does .ruled))
 
       pub stepped : {after : List ℕ} {next : Machine} → length after ≡ length stack
-          → Does (step (instructions code) (asks schedule) (stateOf stack m)) stack (Next next) after → GoesOn so-far after next
+          → Does (step (instructions code) (asks schedule) (stateOf stack m)) stack m (Next next) after → GoesOn so-far after next
       unfolding stepOf
       stepped size does = goes-on so-far (counted here schedule stack (so-far .height)) left (sym (does .ruled)) size (does .beyond)
 

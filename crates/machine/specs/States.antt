@@ -24,11 +24,13 @@ use Rattle.rules.specs.Bytes.{records}
 use Rattle.rules.specs.Limits.{instructionLimit, itemLimit, stackBytes, stepLimit}
 use Rattle.rules.specs.Machine as rules
 use Rattle.rules.specs.Machine.{State, Running, Unwinding}
+use Rattle.rules.specs.declared.Reason.{Reason}
+use Rattle.rules.specs.declared.Reason.the-variants.{StackFull}
 use Rattle.rules.specs.declared.Status.{Status}
 use Rattle.machine.specs.Items.{itemsOf}
 use Rattle.machine.specs.declared.state.Machine.{Machine}
 use Rattle.machine.specs.declared.step.Step.{Step}
-use Rattle.machine.specs.declared.step.Step.the-variants.{Next, Stuck}
+use Rattle.machine.specs.declared.step.Step.the-variants.{Next, Full, NoRule}
 
 abbrev pub stateOf : List ℕ → Machine → State
 stateOf stack m = record {
@@ -39,9 +41,11 @@ stateOf stack m = record {
   reached = m .reached;
 }
 
-unfoldable pub stepOf : List ℕ → Step → rules.Step
-stepOf stack (Next m) = rules.Next (stateOf stack m)
-stepOf stack (Stuck r) = rules.Stuck r
+-- from this machine: a refused step has its address for a place
+unfoldable pub stepOf : List ℕ → Machine → Step → rules.Step
+stepOf stack m (Next next) = rules.Next (stateOf stack next)
+stepOf stack m Full = rules.Stuck (record { reason = StackFull; place = m .address })
+stepOf stack m NoRule = rules.Stuck (record { reason = Reason.NoRule; place = m .address })
 
 -- ---- the rules' `fresh`, `onward` and `unwound`
 
@@ -96,6 +100,6 @@ pub record Unwindable (stack : List ℕ) (m : Machine) : Type 0 where
 
 -- ---- what it promises
 
-pub record Does (rule : rules.Step) (stack : List ℕ) (step : Step) (after : List ℕ) : Type 0 where
-  pub ruled : stepOf after step ≡ rule
+pub record Does (rule : rules.Step) (stack : List ℕ) (m : Machine) (step : Step) (after : List ℕ) : Type 0 where
+  pub ruled : stepOf after m step ≡ rule
   pub beyond : drop stackBytes after ≡ drop stackBytes stack

@@ -4,10 +4,7 @@ use super::item;
 use super::state::Machine;
 use super::step::Step;
 use rules::Item;
-use rules::Reason;
-use rules::Refusal;
 use rules::Status;
-ghost use mathlib.Core.Path.{_≡_};
 ghost use Prim.Native.Nat.{_<_};
 ghost use Rattle.rules.specs.Machine as rules;
 ghost use Rattle.rules.specs.declared.Instruction.the-variants as instruction;
@@ -18,14 +15,11 @@ impl Machine {
     // PUSH, MARK and SET: an item more, and the status after it.
     pub(crate) fn push(self, stack: &mut [u8], item: Item, status: Status) -> Step
         requires { ⌜ Ready (now stack) self × (handlerOf item < 4294967296) ⌝ }
-        ensures { λ r. ⌜ Does (rules.push item (self .address) (stateOf (now (stack .entry)) self) status) (now (stack .entry)) r (now (stack .exit)) ⌝ }
+        ensures { λ r. ⌜ Does (rules.push item (self .address) (stateOf (now (stack .entry)) self) status) (now (stack .entry)) self r (now (stack .exit)) ⌝ }
     {
         let height = self.height;
         if height == Machine::ITEMS {
-            return Step::Stuck(Refusal {
-                reason: Reason::StackFull,
-                place: self.address,
-            });
+            return Step::Full;
         }
         item::put(stack, height, item);
         Step::Next(self.onward(false, self.address + 1, status, height + 1))
@@ -34,18 +28,18 @@ impl Machine {
     // "ADD replaces the two top numbers by their sum."
     pub(crate) fn add(self, stack: &mut [u8]) -> Step
         requires { ⌜ Ready (now stack) self ⌝ }
-        ensures { λ r. ⌜ Does (rules.execute instruction.Add (self .address) (stateOf (now (stack .entry)) self)) (now (stack .entry)) r (now (stack .exit)) ⌝ }
+        ensures { λ r. ⌜ Does (rules.execute instruction.Add (self .address) (stateOf (now (stack .entry)) self)) (now (stack .entry)) self r (now (stack .exit)) ⌝ }
     {
         let status = self.status;
         let height = self.height;
         if height < 2 {
-            return self.no_rule();
+            return Step::NoRule;
         }
         let Item::Number(m) = item::at(stack, height - 1) else {
-            return self.no_rule();
+            return Step::NoRule;
         };
         let Item::Number(n) = item::at(stack, height - 2) else {
-            return self.no_rule();
+            return Step::NoRule;
         };
         item::put(stack, height - 2, Item::Number(record::number::sum(n, m)));
         Step::Next(self.onward(false, self.address + 1, status, height - 1))
@@ -54,15 +48,15 @@ impl Machine {
     // "POP drops a top number."
     pub(crate) fn pop(self, stack: &mut [u8]) -> Step
         requires { ⌜ Ready (now stack) self ⌝ }
-        ensures { λ r. ⌜ Does (rules.execute instruction.Pop (self .address) (stateOf (now (stack .entry)) self)) (now (stack .entry)) r (now (stack .exit)) ⌝ }
+        ensures { λ r. ⌜ Does (rules.execute instruction.Pop (self .address) (stateOf (now (stack .entry)) self)) (now (stack .entry)) self r (now (stack .exit)) ⌝ }
     {
         let status = self.status;
         let height = self.height;
         if height == 0 {
-            return self.no_rule();
+            return Step::NoRule;
         }
         let Item::Number(_) = item::at(stack, height - 1) else {
-            return self.no_rule();
+            return Step::NoRule;
         };
         Step::Next(self.onward(false, self.address + 1, status, height - 1))
     }
@@ -70,18 +64,18 @@ impl Machine {
     // "UNMARK needs a number over a handler: it removes the handler, keeps the number, goes on at its target."
     pub(crate) fn unmark(self, stack: &mut [u8], target: usize) -> Step
         requires { ⌜ Ready (now stack) self ⌝ }
-        ensures { λ r. ⌜ Does (rules.execute (instruction.Unmark target) (self .address) (stateOf (now (stack .entry)) self)) (now (stack .entry)) r (now (stack .exit)) ⌝ }
+        ensures { λ r. ⌜ Does (rules.execute (instruction.Unmark target) (self .address) (stateOf (now (stack .entry)) self)) (now (stack .entry)) self r (now (stack .exit)) ⌝ }
     {
         let status = self.status;
         let height = self.height;
         if height < 2 {
-            return self.no_rule();
+            return Step::NoRule;
         }
         let Item::Number(n) = item::at(stack, height - 1) else {
-            return self.no_rule();
+            return Step::NoRule;
         };
         let Item::Handler(_) = item::at(stack, height - 2) else {
-            return self.no_rule();
+            return Step::NoRule;
         };
         item::put(stack, height - 2, Item::Number(n));
         Step::Next(self.onward(false, target, status, height - 1))
@@ -90,28 +84,19 @@ impl Machine {
     // "RESET needs a number over a saved status: it restores that status and keeps the number."
     pub(crate) fn reset(self, stack: &mut [u8]) -> Step
         requires { ⌜ Ready (now stack) self ⌝ }
-        ensures { λ r. ⌜ Does (rules.execute instruction.Reset (self .address) (stateOf (now (stack .entry)) self)) (now (stack .entry)) r (now (stack .exit)) ⌝ }
+        ensures { λ r. ⌜ Does (rules.execute instruction.Reset (self .address) (stateOf (now (stack .entry)) self)) (now (stack .entry)) self r (now (stack .exit)) ⌝ }
     {
         let height = self.height;
         if height < 2 {
-            return self.no_rule();
+            return Step::NoRule;
         }
         let Item::Number(n) = item::at(stack, height - 1) else {
-            return self.no_rule();
+            return Step::NoRule;
         };
         let Item::Saved(status) = item::at(stack, height - 2) else {
-            return self.no_rule();
+            return Step::NoRule;
         };
         item::put(stack, height - 2, Item::Number(n));
         Step::Next(self.onward(false, self.address + 1, status, height - 1))
-    }
-
-    fn no_rule(self) -> Step
-        ensures { λ r. ⌜ r ≡ Step.Stuck (rules.noRule (self .address)) ⌝ }
-    {
-        Step::Stuck(Refusal {
-            reason: Reason::NoRule,
-            place: self.address,
-        })
     }
 }

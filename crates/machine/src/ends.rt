@@ -12,7 +12,6 @@ ghost use Prim.Native.Nat.{_≤_};
 ghost use lib.ListN.{length};
 ghost use Rattle.rules.specs.Limits.{stackBytes};
 ghost use Rattle.rules.specs.Machine.{Over, atLength};
-ghost use Rattle.rules.specs.Run.{tooManySteps};
 ghost use Rattle.machine.specs.States.{stateOf};
 
 impl Machine {
@@ -33,12 +32,8 @@ impl Machine {
     }
 }
 
-// "1,535 steps taken and not ended."
-pub(crate) fn too_many_steps() -> Outcome
-    ensures { λ r. ⌜ r ≡ tooManySteps ⌝ }
+pub(crate) fn refused(reason: Reason, place: usize) -> Outcome
+    ensures { λ r. ⌜ r ≡ Outcome.Refused (record { reason = reason; place = place }) ⌝ }
 {
-    Outcome::Refused(Refusal {
-        reason: Reason::Steps,
-        place: 0,
-    })
+    Outcome::Refused(Refusal { reason, place })
 }

@@ -5,7 +5,6 @@ use super::instruction;
 use super::state::Machine;
 use rules::Instruction;
 use rules::Item;
-use rules::Refusal;
 use rules::Status;
 ghost use mathlib.Core.Path.{_≡_};
 ghost use Rattle.rules.specs.CodeBytes.{instructions};
@@ -13,17 +12,18 @@ ghost use Rattle.rules.specs.Machine as rules;
 ghost use Rattle.rules.specs.Schedule.{asks};
 ghost use Rattle.machine.specs.States.{stateOf, Steppable, Does};
 
-// What a step comes to: the next state, or a refused step.
+// What a step comes to: the next state, or no step: a push onto 512 items (13), or no rule for the instruction (14).
 pub enum Step {
     Next(Machine),
-    Stuck(Refusal),
+    Full,
+    NoRule,
 }
 
 impl Machine {
     // A step of a state that runs at an instruction.
     pub(crate) fn step(self, code: &[u8], schedule: &[u8], stack: &mut [u8]) -> Step
         requires { ⌜ Steppable (now code) (now stack) self ⌝ }
-        ensures { λ r. ⌜ Does (rules.step (instructions (now (code .entry))) (asks (now (schedule .entry))) (stateOf (now (stack .entry)) self)) (now (stack .entry)) r (now (stack .exit)) ⌝ }
+        ensures { λ r. ⌜ Does (rules.step (instructions (now (code .entry))) (asks (now (schedule .entry))) (stateOf (now (stack .entry)) self)) (now (stack .entry)) self r (now (stack .exit)) ⌝ }
     {
         let present = self.status;
         if self.cut(schedule) {

@@ -1,11 +1,12 @@
 // A run: the step repeated until it ends (document 01, "One step of the machine" and "Refusal numbers").
 
-use super::ends::too_many_steps;
+use super::ends::refused;
 use super::state::Machine;
 use super::step::Step;
 use rules::Answer;
 use rules::End;
 use rules::Outcome;
+use rules::Reason;
 use rules::Status;
 ghost use Rattle.machine.specs.Runs.{Runnable, Ran};
 
@@ -21,18 +22,19 @@ pub(crate) fn repeat(status: Status, code: &[u8], schedule: &[u8], stack: &mut [
             break machine.at_length(stack);
         }
         if machine.steps == Machine::STEPS {
-            break too_many_steps();
+            break refused(Reason::Steps, 0);
         }
         match machine.step(code, schedule, stack) {
             Step::Next(next) => machine = next,
-            Step::Stuck(refusal) => break Outcome::Refused(refusal),
+            Step::Full => break refused(Reason::StackFull, machine.address),
+            Step::NoRule => break refused(Reason::NoRule, machine.address),
         }
         while machine.unwinding {
             if machine.height == 0 {
                 break 'run Outcome::Ended(End::Throw);
             }
             if machine.steps == Machine::STEPS {
-                break 'run too_many_steps();
+                break 'run refused(Reason::Steps, 0);
             }
             machine = machine.unwind(stack);
         }

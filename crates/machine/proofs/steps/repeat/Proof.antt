@@ -11,7 +11,7 @@ use Rattle.rules.specs.Run.{runs}
 use Rattle.rules.specs.Schedule.{asks}
 use Rattle.machine.specs.States.{AtInstruction}
 use Rattle.machine.proofs.Underway.{Underway, GoesOn, rest, begun, joined}
-use Rattle.machine.proofs.Turns.{whole-run, at-the-length, at-an-instruction, limit-at-an-instruction, refused-at-an-instruction, stepped, nothing-to-unwind, limit-unwinding, an-item-to-unwind, unwound}
+use Rattle.machine.proofs.Turns.{whole-run, at-the-length, at-an-instruction, limit-at-an-instruction, full-at-an-instruction, no-rule-at-an-instruction, stepped, nothing-to-unwind, limit-unwinding, an-item-to-unwind, unwound}
 use Rattle.machine.proofs.steps.repeat.Statement.{statement}
 use Rattle.machine.proofs.steps.repeat.Tie as tie
 
@@ -59,8 +59,8 @@ run-holds c = rw (c .new .ensures) (begun (c .before .before .before .before .ar
 at-length-requires : tie.Need-at-length-requires Inv-loop μ-loop Inv-run μ-run
 at-length-requires c κs = omega (arith, c .before .before .before .before .before .before .before .before .pre .room, c .before .before .before .run .inv .0 .size)
 
-too-many-steps-requires : tie.Need-too-many-steps-requires Inv-loop μ-loop Inv-run μ-run
-too-many-steps-requires c κs = search needs
+refused-requires : tie.Need-refused-requires Inv-loop μ-loop Inv-run μ-run
+refused-requires c κs = search needs
 
 step-requires : tie.Need-step-requires Inv-loop μ-loop Inv-run μ-run
 step-requires c κs =
@@ -70,8 +70,17 @@ step-requires c κs =
 enum-known-next : tie.Need-enum-known-next Inv-loop μ-loop Inv-run μ-run
 enum-known-next c = search needs
 
-enum-known-refusal : tie.Need-enum-known-refusal Inv-loop μ-loop Inv-run μ-run
-enum-known-refusal c = search needs
+enum-told : tie.Need-enum-told Inv-loop μ-loop Inv-run μ-run
+enum-told c = search needs
+
+refused-requires-2 : tie.Need-refused-requires-2 Inv-loop μ-loop Inv-run μ-run
+refused-requires-2 c κs = search needs
+
+enum-told-2 : tie.Need-enum-told-2 Inv-loop μ-loop Inv-run μ-run
+enum-told-2 c = search needs
+
+refused-requires-3 : tie.Need-refused-requires-3 Inv-loop μ-loop Inv-run μ-run
+refused-requires-3 c κs = search needs
 
 run-less : tie.Need-run-less Inv-loop μ-loop Inv-run μ-run
 run-less c = omega (arith, on (c .before .before) .0, c .before .loop .inv .later, c .before .loop .inv .steps)
@@ -84,8 +93,8 @@ run-again c = (joined (on (c .before .before) .1) (c .before .loop .inv), c .loo
 loop-holds : tie.Need-loop-holds Inv-loop μ-loop Inv-run μ-run
 loop-holds c = let so-far = on c .1 in begun _ (so-far .steps) (so-far .reached) (so-far .height)
 
-too-many-steps-requires-2 : tie.Need-too-many-steps-requires-2 Inv-loop μ-loop Inv-run μ-run
-too-many-steps-requires-2 c κs = search needs
+refused-requires-4 : tie.Need-refused-requires-4 Inv-loop μ-loop Inv-run μ-run
+refused-requires-4 c κs = search needs
 
 unwind-requires : tie.Need-unwind-requires Inv-loop μ-loop Inv-run μ-run
 unwind-requires c κs =
@@ -125,7 +134,7 @@ returns-2 c =
     let s = c .before .before .before .before .before .before .before .before .before .before .args in
     let so-far = c .before .before .before .before .before .run .inv .0 in
     record {
-      answered = rw (c .too-many-steps .ensures) (limit-at-an-instruction (s .code .now) (s .schedule .now) so-far (here (c .before .before .before)) (c .before .if2 .taken) ∙ whole (c .before .before .before .before .before .before));
+      answered = rw (c .refused .ensures) (limit-at-an-instruction (s .code .now) (s .schedule .now) so-far (here (c .before .before .before)) (c .before .if2 .taken) ∙ whole (c .before .before .before .before .before .before));
       beyond = so-far .beyond;
     }
 
@@ -136,17 +145,26 @@ returns-3 : tie.Need-returns-3 Inv-loop μ-loop Inv-run μ-run
 returns-3 c =
     let s = c .before .before .before .before .before .before .before .before .before .before .before .before .before .before .before .before .args in
     let so-far = c .before .before .before .before .before .before .before .before .before .before .before .run .inv .0 in
-    let does = rw (c .before .refusal .given .1) at (c .before .before .before .before .before .step .ensures) in
-    record {
-      answered = refused-at-an-instruction (s .code .now) (s .schedule .now) so-far (here (c .before .before .before .before .before .before .before .before .before)) (c .before .before .before .before .before .before .before .if2 .left) does ∙ whole (c .before .before .before .before .before .before .before .before .before .before .before .before);
-      beyond = does .beyond ∙ so-far .beyond;
-    }
+    let does = rw (c .before .enum-told .given .1) at (c .before .before .before .before .before .step .ensures) in
+    let full = full-at-an-instruction (s .code .now) (s .schedule .now) so-far (here (c .before .before .before .before .before .before .before .before .before)) (c .before .before .before .before .before .before .before .if2 .left) does in
+    record { answered = rw (c .refused2 .ensures) (full ∙ whole (c .before .before .before .before .before .before .before .before .before .before .before .before)); beyond = does .beyond ∙ so-far .beyond }
 
 same-length-4 : tie.Need-same-length-4 Inv-loop μ-loop Inv-run μ-run
-same-length-4 c = within (c .before .before .before) .size
+same-length-4 c = c .before .before .before .before .before .step .kept .1 .1 .1 .0 ∙ c .before .before .before .before .before .before .before .before .before .before .before .run .inv .0 .size
 
 returns-4 : tie.Need-returns-4 Inv-loop μ-loop Inv-run μ-run
 returns-4 c =
+    let s = c .before .before .before .before .before .before .before .before .before .before .before .before .before .before .before .before .args in
+    let so-far = c .before .before .before .before .before .before .before .before .before .before .before .run .inv .0 in
+    let does = rw (c .before .enum-told2 .given .1) at (c .before .before .before .before .before .step .ensures) in
+    let stuck = no-rule-at-an-instruction (s .code .now) (s .schedule .now) so-far (here (c .before .before .before .before .before .before .before .before .before)) (c .before .before .before .before .before .before .before .if2 .left) does in
+    record { answered = rw (c .refused3 .ensures) (stuck ∙ whole (c .before .before .before .before .before .before .before .before .before .before .before .before)); beyond = does .beyond ∙ so-far .beyond }
+
+same-length-5 : tie.Need-same-length-5 Inv-loop μ-loop Inv-run μ-run
+same-length-5 c = within (c .before .before .before) .size
+
+returns-5 : tie.Need-returns-5 Inv-loop μ-loop Inv-run μ-run
+returns-5 c =
     let s = c .before .before .before .before .before .before .before .before .before .before .before .before .before .before .before .before .before .before .before .before .args in
     let so-far = within (c .before .before .before) in
     record {
@@ -154,15 +172,15 @@ returns-4 c =
       beyond = so-far .beyond;
     }
 
-same-length-5 : tie.Need-same-length-5 Inv-loop μ-loop Inv-run μ-run
-same-length-5 c = within (c .before .before .before .before .before .before) .size
+same-length-6 : tie.Need-same-length-6 Inv-loop μ-loop Inv-run μ-run
+same-length-6 c = within (c .before .before .before .before .before .before) .size
 
-returns-5 : tie.Need-returns-5 Inv-loop μ-loop Inv-run μ-run
-returns-5 c =
+returns-6 : tie.Need-returns-6 Inv-loop μ-loop Inv-run μ-run
+returns-6 c =
     let s = c .before .before .before .before .before .before .before .before .before .before .before .before .before .before .before .before .before .before .before .before .before .before .before .args in
     let so-far = within (c .before .before .before .before .before .before) in
     record {
-      answered = rw (c .too-many-steps2 .ensures) (limit-unwinding (s .code .now) (s .schedule .now) so-far (c .before .before .before .before .before .loop-test .taken) (c .before .before .before .if3 .left) (c .before .if4 .taken) ∙ whole (c .before .before .before .before .before .before .before .before .before .before .before .before .before .before .before .before .before .before .before));
+      answered = rw (c .refused4 .ensures) (limit-unwinding (s .code .now) (s .schedule .now) so-far (c .before .before .before .before .before .loop-test .taken) (c .before .before .before .if3 .left) (c .before .if4 .taken) ∙ whole (c .before .before .before .before .before .before .before .before .before .before .before .before .before .before .before .before .before .before .before));
       beyond = so-far .beyond;
     }
 
@@ -177,14 +195,17 @@ repeat-spec =
     new-requires
     run-holds
     at-length-requires
-    too-many-steps-requires
+    refused-requires
     step-requires
     enum-known-next
-    enum-known-refusal
+    enum-told
+    refused-requires-2
+    enum-told-2
+    refused-requires-3
     loop-holds
     run-less
     run-again
-    too-many-steps-requires-2
+    refused-requires-4
     unwind-requires
     loop-less
     loop-again
@@ -197,4 +218,6 @@ repeat-spec =
     same-length-4
     returns-4
     same-length-5
-    returns-5)
+    returns-5
+    same-length-6
+    returns-6)

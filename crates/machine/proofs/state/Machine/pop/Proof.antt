@@ -7,13 +7,10 @@ use Rattle.machine.proofs.Carrying.{pop-none, pop-other, popped}
 use Rattle.machine.proofs.state.Machine.pop.Statement.{statement}
 use Rattle.machine.proofs.state.Machine.pop.Tie as tie
 
-no-rule-requires : tie.Need-no-rule-requires
-no-rule-requires c κs = search needs
-
 returns : tie.Need-returns
 returns c =
-    let s = c .before .before .before in
-    rw (c .no-rule .ensures) (pop-none (s .args .stack .now) (s .args .self) (c .before .if1 .taken))
+    let s = c .before .before in
+    pop-none (s .args .stack .now) (s .args .self) (c .if1 .taken)
 
 sub-at : tie.Need-sub-at
 sub-at c = search needs
@@ -24,21 +21,17 @@ at-requires c κs = search needs
 enum-told : tie.Need-enum-told
 enum-told c = search needs
 
-no-rule-requires-2 : tie.Need-no-rule-requires-2
-no-rule-requires-2 c κs = search needs
-
 same-length : tie.Need-same-length
 same-length c = search needs
 
 returns-2 : tie.Need-returns-2
 returns-2 c =
-    let top = c .before .before in
+    let top = c .before in
     let tested = top .before .before in
     let s = tested .before .before in
-    rw (c .no-rule2 .ensures)
-    (pop-other (s .args .stack .now) (s .args .self) (omega (arith, tested .if1 .left))
+    pop-other (s .args .stack .now) (s .args .self) (omega (arith, tested .if1 .left))
     (top .at .ensures)
-    (c .before .match .keys2))
+    (c .match .keys2)
 
 add-onward : tie.Need-add-onward
 add-onward c = search needs
@@ -66,12 +59,10 @@ pub pop-spec : {M : Type 1} → statement M
 pop-spec =
     tie.close
     (tie.spec
-    no-rule-requires
     returns
     sub-at
     at-requires
     enum-told
-    no-rule-requires-2
     same-length
     returns-2
     add-onward

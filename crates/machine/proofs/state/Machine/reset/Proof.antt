@@ -10,13 +10,10 @@ use Rattle.machine.proofs.Carrying.{reset-few, reset-top, reset-below, 
 use Rattle.machine.proofs.state.Machine.reset.Statement.{statement}
 use Rattle.machine.proofs.state.Machine.reset.Tie as tie
 
-no-rule-requires : tie.Need-no-rule-requires
-no-rule-requires c κs = search needs
-
 returns : tie.Need-returns
 returns c =
-    let s = c .before .before .before in
-    rw (c .no-rule .ensures) (reset-few (s .args .stack .now) (s .args .self) (c .before .if1 .taken))
+    let s = c .before .before in
+    reset-few (s .args .stack .now) (s .args .self) (c .if1 .taken)
 
 sub-at : tie.Need-sub-at
 sub-at c = search needs
@@ -27,19 +24,15 @@ at-requires c κs = search needs
 enum-known-n : tie.Need-enum-known-n
 enum-known-n c = search needs
 
-no-rule-requires-2 : tie.Need-no-rule-requires-2
-no-rule-requires-2 c κs = search needs
-
 same-length : tie.Need-same-length
 same-length c = search needs
 
 returns-2 : tie.Need-returns-2
 returns-2 c =
-    let top = c .before .before in
+    let top = c .before in
     let tested = top .before .before in
     let s = tested .before .before in
-    rw (c .no-rule2 .ensures)
-    (reset-top (s .args .stack .now) (s .args .self) (tested .if1 .left) (top .at .ensures) (c .before .match .keys2))
+    reset-top (s .args .stack .now) (s .args .self) (tested .if1 .left) (top .at .ensures) (c .match .keys2)
 
 at-requires-2 : tie.Need-at-requires-2
 at-requires-2 c κs = search needs
@@ -47,24 +40,20 @@ at-requires-2 c κs = search needs
 enum-known-status : tie.Need-enum-known-status
 enum-known-status c = search needs
 
-no-rule-requires-3 : tie.Need-no-rule-requires-3
-no-rule-requires-3 c κs = search needs
-
 same-length-2 : tie.Need-same-length-2
 same-length-2 c = search needs
 
 returns-3 : tie.Need-returns-3
 returns-3 c =
-    let below = c .before .before in
+    let below = c .before in
     let number = below .before .before .before in
     let top = number .before .before in
     let tested = top .before .before in
     let s = tested .before .before in
-    rw (c .no-rule3 .ensures)
-    (reset-below (s .args .stack .now) (s .args .self) (tested .if1 .left)
+    reset-below (s .args .stack .now) (s .args .self) (tested .if1 .left)
     (sym (number .n .given .1) ∙ top .at .ensures)
     (below .at2 .ensures)
-    (c .before .match2 .keys2))
+    (c .match2 .keys2)
 
 put-requires : tie.Need-put-requires
 unfolding handlerOf
@@ -103,17 +92,14 @@ pub reset-spec : {M : Type 1} → statement M
 reset-spec =
     tie.close
     (tie.spec
-    no-rule-requires
     returns
     sub-at
     at-requires
     enum-known-n
-    no-rule-requires-2
     same-length
     returns-2
     at-requires-2
     enum-known-status
-    no-rule-requires-3
     same-length-2
     returns-3
     put-requires

@@ -31,8 +31,8 @@ returns c =
     rw (c .onward .ensures) (cut (s .pre) (s .args .schedule .now) (sym (c .before .if1 .taken) ∙ c .before .before .cut .ensures))
 
 carried : (c : tie.After-at) {x : Instruction} → c .at .result ≡ x → {r : Step} {after : List ℕ}
-    → Does (execute x (c .before .before .before .before .before .before .args .self .address) (stateOf (c .before .before .before .before .before .before .args .stack .now) (c .before .before .before .before .before .before .args .self))) (c .before .before .before .before .before .before .args .stack .now) r after
-    → Does (step (instructions (c .before .before .before .before .before .before .args .code .now)) (asks (c .before .before .before .before .before .before .args .schedule .now)) (stateOf (c .before .before .before .before .before .before .args .stack .now) (c .before .before .before .before .before .before .args .self))) (c .before .before .before .before .before .before .args .stack .now) r after
+    → Does (execute x (c .before .before .before .before .before .before .args .self .address) (stateOf (c .before .before .before .before .before .before .args .stack .now) (c .before .before .before .before .before .before .args .self))) (c .before .before .before .before .before .before .args .stack .now) (c .before .before .before .before .before .before .args .self) r after
+    → Does (step (instructions (c .before .before .before .before .before .before .args .code .now)) (asks (c .before .before .before .before .before .before .args .schedule .now)) (stateOf (c .before .before .before .before .before .before .args .stack .now) (c .before .before .before .before .before .before .args .self))) (c .before .before .before .before .before .before .args .stack .now) (c .before .before .before .before .before .before .args .self) r after
 carried c told does =
     let s = c .before .before .before .before .before .before in
     let uncut = sym (c .before .if1 .left) ∙ c .before .before .cut .ensures in

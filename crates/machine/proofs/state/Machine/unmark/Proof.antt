@@ -10,13 +10,10 @@ use Rattle.machine.proofs.Carrying.{unmark-few, unmark-top, unmark-belo
 use Rattle.machine.proofs.state.Machine.unmark.Statement.{statement}
 use Rattle.machine.proofs.state.Machine.unmark.Tie as tie
 
-no-rule-requires : tie.Need-no-rule-requires
-no-rule-requires c κs = search needs
-
 returns : tie.Need-returns
 returns c =
-    let s = c .before .before .before in
-    rw (c .no-rule .ensures) (unmark-few (s .args .stack .now) (s .args .self) (s .args .target) (c .before .if1 .taken))
+    let s = c .before .before in
+    unmark-few (s .args .stack .now) (s .args .self) (s .args .target) (c .if1 .taken)
 
 sub-at : tie.Need-sub-at
 sub-at c = search needs
@@ -27,22 +24,18 @@ at-requires c κs = search needs
 enum-known-n : tie.Need-enum-known-n
 enum-known-n c = search needs
 
-no-rule-requires-2 : tie.Need-no-rule-requires-2
-no-rule-requires-2 c κs = search needs
-
 same-length : tie.Need-same-length
 same-length c = search needs
 
 returns-2 : tie.Need-returns-2
 returns-2 c =
-    let top = c .before .before in
+    let top = c .before in
     let tested = top .before .before in
     let s = tested .before .before in
-    rw (c .no-rule2 .ensures)
-    (unmark-top (s .args .stack .now) (s .args .self) (tested .if1 .left)
+    unmark-top (s .args .stack .now) (s .args .self) (tested .if1 .left)
     (top .at .ensures)
-    (c .before .match .keys2)
-    (s .args .target))
+    (c .match .keys2)
+    (s .args .target)
 
 at-requires-2 : tie.Need-at-requires-2
 at-requires-2 c κs = search needs
@@ -50,25 +43,21 @@ at-requires-2 c κs = search needs
 enum-told : tie.Need-enum-told
 enum-told c = search needs
 
-no-rule-requires-3 : tie.Need-no-rule-requires-3
-no-rule-requires-3 c κs = search needs
-
 same-length-2 : tie.Need-same-length-2
 same-length-2 c = search needs
 
 returns-3 : tie.Need-returns-3
 returns-3 c =
-    let below = c .before .before in
+    let below = c .before in
     let number = below .before .before .before in
     let top = number .before .before in
     let tested = top .before .before in
     let s = tested .before .before in
-    rw (c .no-rule3 .ensures)
-    (unmark-below (s .args .stack .now) (s .args .self) (tested .if1 .left)
+    unmark-below (s .args .stack .now) (s .args .self) (tested .if1 .left)
     (sym (number .n .given .1) ∙ top .at .ensures)
     (below .at2 .ensures)
     (s .args .target)
-    (c .before .match2 .keys2))
+    (c .match2 .keys2)
 
 put-requires : tie.Need-put-requires
 unfolding handlerOf
@@ -105,17 +94,14 @@ pub unmark-spec : {M : Type 1} → statement M
 unmark-spec =
     tie.close
     (tie.spec
-    no-rule-requires
     returns
     sub-at
     at-requires
     enum-known-n
-    no-rule-requires-2
     same-length
     returns-2
     at-requires-2
     enum-told
-    no-rule-requires-3
     same-length-2
     returns-3
     put-requires
