@@ -9,17 +9,15 @@
 use Prim.Native.Nat.{ℕ, _≤_, _<_}
 use native.Mathlib.Omega.{arith}
 use borrow.Author.Tests.{lt-ltb, le-ltb, le-leb, lt-leb}
-use lib.Dec.{ltb, leb}
 use lib.ListN.{length, drop, replicate}
-use mathlib.Core.Bool.{true, false}
-use mathlib.Core.List.{List, _∷_, _++_}
+use mathlib.Core.List.{List, _++_}
 use mathlib.Core.Option.{none, some}
-use mathlib.Core.Path.{_≡_, refl, sym, _∙_}
+use mathlib.Core.Path.{_≡_, _∙_}
 use Rattle.rules.specs.Answers.{statusNumbered}
 use Rattle.rules.specs.Bytes.{records}
 use Rattle.rules.specs.CodeBytes.{instructions, codeTests}
 use Rattle.rules.specs.Limits.{codeLimit, stackBytes}
-use Rattle.rules.specs.Refusals.{unless, firstRefusal, checkedBy}
+use Rattle.rules.specs.Refusals.{unless, firstRefusal}
 use Rattle.rules.specs.Run.{runs}
 use Rattle.rules.specs.Running.{runTests, refusedAnswer, runAnswer, runLeaves}
 use Rattle.rules.specs.Schedule.{asks}

@@ -11,7 +11,7 @@ use lib.IntN.{ℤ}
 use lib.ListN.{length}
 use mathlib.Core.List.{List, [], _∷_}
 use mathlib.Core.Path.{_≡_, refl, sym}
-use Rattle.rules.specs.Machine.{State, Over, atLength, withNumber, withNothing, noRule}
+use Rattle.rules.specs.Machine.{Over, atLength, withNumber, withNothing, noRule}
 use Rattle.rules.specs.declared.End.{End}
 use Rattle.rules.specs.declared.Item.{Item}
 use Rattle.rules.specs.declared.Item.the-variants.{Number, Handler, Saved}

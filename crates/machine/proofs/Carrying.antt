@@ -12,9 +12,9 @@ use borrow.Author.Tests.{lt-ltb, le-ltb}
 use lib.Dec.{ltb}
 use lib.IntN.{ℤ}
 use lib.ListN.{length}
-use mathlib.Core.Bool.{true, false, cond}
+use mathlib.Core.Bool.{true, false}
 use mathlib.Core.List.{List, [], _∷_}
-use mathlib.Core.Path.{_≡_, refl, sym, _∙_}
+use mathlib.Core.Path.{_≡_, refl, sym}
 use Rattle.rules.specs.Limits.{itemLimit}
 use Rattle.rules.specs.Machine as rules
 use Rattle.rules.specs.Machine.{execute, push, withNumber, withHandler, withSaved, noRule}
@@ -23,11 +23,9 @@ use Rattle.rules.specs.declared.Instruction.{Instruction}
 use Rattle.rules.specs.declared.Instruction.the-variants.{Add, Pop, Unmark, Reset}
 use Rattle.rules.specs.declared.Item.{Item}
 use Rattle.rules.specs.declared.Item.the-variants.{Number, Handler, Saved}
-use Rattle.rules.specs.declared.Reason.the-variants.{StackFull}
-use Rattle.rules.specs.declared.Refusal.{Refusal}
 use Rattle.rules.specs.declared.Status.{Status}
 use Rattle.machine.specs.Items.{itemAt, itemsOf, Stored}
-use Rattle.machine.specs.States.{stateOf, stepOf, onwardOf, Does}
+use Rattle.machine.specs.States.{stateOf, stepOf, onwardOf, Does, Carries, Pushes}
 use Rattle.machine.specs.declared.state.Machine.{Machine}
 use Rattle.machine.specs.declared.step.Step.the-variants.{Next, Full, NoRule}
 use Rattle.machine.proofs.Stacked.{length-itemsOf, items-none, items-top, items-two}
@@ -46,7 +44,7 @@ few-items (Saved i ∷ rest) otherwise f none few = refl
 
 module _ (stack : List ℕ) (m : Machine) where
   abbrev Refuses : Instruction → Type 0
-  Refuses x = Does (execute x (m .address) (stateOf stack m)) stack m NoRule stack
+  Refuses x = Carries x stack m NoRule stack
 
   -- with this item at this height
   abbrev Reads : Item → ℕ → Type 0
@@ -68,7 +66,7 @@ module _ (stack : List ℕ) (m : Machine) where
 
   module _ (item : Item) (status : Status) where
     pub push-full : m .height ≡ itemLimit
-        → Does (push item (m .address) (stateOf stack m) status) stack m Full stack
+        → Pushes item status stack m Full stack
     unfolding push stepOf
     push-full e =
         let full : ltb (length (itemsOf stack (m .height))) itemLimit ≡ false =
@@ -76,7 +74,7 @@ module _ (stack : List ℕ) (m : Machine) where
         record { ruled = sym (rw full); beyond = refl }
 
     pub pushed : m .height < itemLimit → {after : List ℕ} → Stored stack (m .height) item after
-        → Does (push item (m .address) (stateOf stack m) status) stack m (Next (onwardOf m false (m .address + 1) status (m .height + 1))) after
+        → Pushes item status stack m (Next (onwardOf m false (m .address + 1) status (m .height + 1))) after
     unfolding push stepOf
     pushed h put =
         let room : ltb (length (itemsOf stack (m .height))) itemLimit ≡ true =
@@ -94,7 +92,7 @@ module _ (stack : List ℕ) (m : Machine) where
   pop-other h e tag = refused (other-top _ _ h e tag)
 
   pub popped : 1 ≤ m .height → {n : ℤ} → Reads (Number n) (m .height - 1)
-      → Does (execute Pop (m .address) (stateOf stack m)) stack m (Next (onwardOf m false (m .address + 1) (m .status) (m .height - 1))) stack
+      → Carries Pop stack m (Next (onwardOf m false (m .address + 1) (m .status) (m .height - 1))) stack
   unfolding execute stepOf withNumber
   popped h e = record { ruled = rw (items-top stack (m .height) h, ← e, withNumber); beyond = refl }
 
@@ -136,7 +134,10 @@ module _ (stack : List ℕ) (m : Machine) where
         pub add-below : TaggedOneOf 1 2 x → Refuses Add
         unfolding execute withNumber
         add-below tag =
-            refused (rw (items-two stack (m .height) h, ← e, withNumber) (rw (← f) (not-number (itemsOf stack (m .height - 2)) _ (λ k rest. rules.onward (stateOf stack m) (rules.Running (m .address + 1)) (m .status) (Number (sum k n) ∷ rest)) x tag)))
+            let below = itemsOf stack (m .height - 2) in
+            let add : ℤ → List Item → rules.Step =
+            λ k rest. rules.onward (stateOf stack m) (rules.Running (m .address + 1)) (m .status) (Number (sum k n) ∷ rest) in
+            refused (rw (items-two stack (m .height) h, ← e, withNumber) (rw (← f) (not-number below _ add x tag)))
 
         pub unmark-below : (target : ℕ) → TaggedOneOf 0 2 x → Refuses (Unmark target)
         unfolding execute withNumber
@@ -148,19 +149,19 @@ module _ (stack : List ℕ) (m : Machine) where
 
       module _ {after : List ℕ} where
         pub added : {k : ℤ} → Reads (Number k) (m .height - 2) → Stored stack (m .height - 2) (Number (sum k n)) after
-            → Does (execute Add (m .address) (stateOf stack m)) stack m (Next (onwardOf m false (m .address + 1) (m .status) (m .height - 1))) after
+            → Carries Add stack m (Next (onwardOf m false (m .address + 1) (m .status) (m .height - 1))) after
         unfolding execute withNumber stepOf
         added f put = record { ruled = rw (items-two stack (m .height) h, ← e, withNumber, ← f, replaced h put); beyond = put .beyond }
 
         module _ (put : Stored stack (m .height - 2) (Number n) after) where
           pub unmarked : (target : ℕ) {a : ℕ} → Reads (Handler a) (m .height - 2)
-              → Does (execute (Unmark target) (m .address) (stateOf stack m)) stack m (Next (onwardOf m false target (m .status) (m .height - 1))) after
+              → Carries (Unmark target) stack m (Next (onwardOf m false target (m .status) (m .height - 1))) after
           unfolding execute withNumber withHandler stepOf
           unmarked target f =
               record { ruled = rw (items-two stack (m .height) h, ← e, withNumber, ← f, withHandler, replaced h put); beyond = put .beyond }
 
           pub reset : {i : Status} → Reads (Saved i) (m .height - 2)
-              → Does (execute Reset (m .address) (stateOf stack m)) stack m (Next (onwardOf m false (m .address + 1) i (m .height - 1))) after
+              → Carries Reset stack m (Next (onwardOf m false (m .address + 1) i (m .height - 1))) after
           unfolding execute withNumber withSaved stepOf
           reset f =
               record { ruled = rw (items-two stack (m .height) h, ← e, withNumber, ← f, withSaved, replaced h put); beyond = put .beyond }

@@ -9,19 +9,19 @@ use lib.IntN.{ℤ}
 use mathlib.Core.Bool.{true, false}
 use mathlib.Core.List.{List}
 use mathlib.Core.Path.{_≡_}
-use Rattle.rules.specs.Machine.{Next, unwind}
+use Rattle.rules.specs.Machine.{unwind}
 use Rattle.rules.specs.declared.Item.{Item}
 use Rattle.rules.specs.declared.Item.the-variants.{Number, Handler, Saved}
 use Rattle.rules.specs.declared.Status.{Status}
-use Rattle.machine.specs.Items.{itemAt, itemsOf}
-use Rattle.machine.specs.States.{stateOf, unwoundOf}
+use Rattle.machine.specs.Items.{itemAt}
+use Rattle.machine.specs.States.{unwoundOf, Unwinds}
 use Rattle.machine.specs.declared.state.Machine.{Machine}
 use Rattle.machine.proofs.Stacked.{items-top}
 
 module _ (stack : List ℕ) (m : Machine) (some : 0 < m .height) where
   -- with this item on top, this is the machine after the step
   abbrev Removes : Item → Machine → Type 0
-  Removes x next = x ≡ itemAt stack (m .height - 1) → Next (stateOf stack next) ≡ unwind (stateOf stack m) (itemsOf stack (m .height))
+  Removes x next = x ≡ itemAt stack (m .height - 1) → Unwinds stack m next
 
   pub number-dropped : {n : ℤ} → Removes (Number n) (unwoundOf m true (m .address) (m .status) (m .height - 1))
   unfolding unwind

@@ -21,7 +21,7 @@ use Rattle.rules.specs.declared.Instruction.the-variants.{Throw}
 use Rattle.rules.proofs.Counted.{Counted, instruction-counted}
 use Rattle.rules.proofs.Instructions.{instruction-found}
 use Rattle.machine.specs.Items.{itemsOf}
-use Rattle.machine.specs.States.{stateOf, stepOf, onwardOf, AtInstruction, Steppable, Does}
+use Rattle.machine.specs.States.{stateOf, stepOf, onwardOf, AtInstruction, Steppable, Carries, Steps}
 use Rattle.machine.specs.declared.state.Machine.{Machine}
 use Rattle.machine.specs.declared.step.Step.{Step}
 use Rattle.machine.specs.declared.step.Step.the-variants.{Next}
@@ -32,7 +32,7 @@ use Rattle.machine.proofs.Underway.{step-running}
 abbrev pub unwinds : Machine → Machine
 unwinds m = onwardOf m true (m .address) (m .status) (m .height)
 
-pub thrown : (stack : List ℕ) (m : Machine) → Does (execute Throw (m .address) (stateOf stack m)) stack m (Next (unwinds m)) stack
+pub thrown : (stack : List ℕ) (m : Machine) → Carries Throw stack m (Next (unwinds m)) stack
 unfolding execute stepOf
 thrown stack m = record { ruled = refl; beyond = refl }
 
@@ -49,16 +49,12 @@ module _ {code : List ℕ} {m : Machine} (here : AtInstruction code m) (schedule
       rw at-its-instruction (instruction-counted (stateOf stack m) few (asks schedule) (m .address) (instructionAt code (m .address)))
 
 module _ {code stack : List ℕ} {m : Machine} (ready : Steppable code stack m) (schedule : List ℕ) where
-  -- the step of the rules
-  abbrev Steps : Step → List ℕ → Type 0
-  Steps r after = Does (step (instructions code) (asks schedule) (stateOf stack m)) stack m r after
-
-  pub cut : true ≡ cuts (m .status) (asks schedule (m .reached)) → Steps (Next (unwinds m)) stack
+  pub cut : true ≡ cuts (m .status) (asks schedule (m .reached)) → Steps code schedule stack m (Next (unwinds m)) stack
   unfolding atInstruction stepOf
   cut e = record { ruled = sym (at-its-instruction (ready .here) schedule stack ∙ rw (← e)); beyond = refl }
 
   pub carried-out : false ≡ cuts (m .status) (asks schedule (m .reached)) → {x : Instruction} → x ≡ instructionAt code (m .address)
-      → {r : Step} {after : List ℕ} → Does (execute x (m .address) (stateOf stack m)) stack m r after → Steps r after
+      → {r : Step} {after : List ℕ} → Carries x stack m r after → Steps code schedule stack m r after
   unfolding atInstruction
   carried-out e f does = record {
     ruled = does .ruled ∙ sym (at-its-instruction (ready .here) schedule stack ∙ rw (← e, ← f));

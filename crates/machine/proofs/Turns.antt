@@ -20,8 +20,7 @@ use mathlib.Core.List.{List}
 use mathlib.Core.Path.{_≡_, refl, sym, _∙_}
 use Rattle.rules.specs.Bytes.{records}
 use Rattle.rules.specs.CodeBytes.{instructions}
-use Rattle.rules.specs.Limits.{codeLimit, stackBytes, stepLimit}
-use Rattle.rules.specs.Machine as rules
+use Rattle.rules.specs.Limits.{stepLimit}
 use Rattle.rules.specs.Machine.{Over, atLength, stepAt, step, unwind}
 use Rattle.rules.specs.Run.{answer, tooManySteps, runs}
 use Rattle.rules.specs.Schedule.{asks}
@@ -35,7 +34,7 @@ use Rattle.rules.proofs.Counted.{Counted, unwound-counted}
 use Rattle.rules.proofs.Instructions.{instruction-missing}
 use Rattle.machine.specs.Items.{itemsOf}
 use Rattle.machine.specs.Runs.{Runnable}
-use Rattle.machine.specs.States.{stateOf, stepOf, freshOf, AtInstruction, Steppable, Unwindable, Does}
+use Rattle.machine.specs.States.{stateOf, stepOf, freshOf, AtInstruction, Steppable, Unwindable, Steps, Unwinds}
 use Rattle.machine.specs.declared.state.Machine.{Machine}
 use Rattle.machine.specs.declared.step.Step.the-variants.{Next, Full, NoRule}
 use Rattle.machine.proofs.Stacked.{length-itemsOf, items-none}
@@ -79,19 +78,19 @@ module _ (code schedule : List ℕ) {stack₀ stack : List ℕ} {start m : Machi
       }
 
       pub full-at-an-instruction : {after : List ℕ}
-          → Does (step (instructions code) (asks schedule) (stateOf stack m)) stack m Full after
+          → Steps code schedule stack m Full after
           → Answers (Refused (record { reason = StackFull; place = m .address }))
       unfolding stepOf
       full-at-an-instruction does = refused so-far left (sym (does .ruled))
 
       pub no-rule-at-an-instruction : {after : List ℕ}
-          → Does (step (instructions code) (asks schedule) (stateOf stack m)) stack m NoRule after
+          → Steps code schedule stack m NoRule after
           → Answers (Refused (record { reason = Reason.NoRule; place = m .address }))
       unfolding stepOf
       no-rule-at-an-instruction does = refused so-far left (sym (does .ruled))
 
       pub stepped : {after : List ℕ} {next : Machine} → length after ≡ length stack
-          → Does (step (instructions code) (asks schedule) (stateOf stack m)) stack m (Next next) after → GoesOn so-far after next
+          → Steps code schedule stack m (Next next) after → GoesOn so-far after next
       unfolding stepOf
       stepped size does = goes-on so-far (counted here schedule stack (so-far .height)) left (sym (does .ruled)) size (does .beyond)
 
@@ -123,5 +122,5 @@ module _ (code schedule : List ℕ) {stack₀ stack : List ℕ} {start m : Machi
           some = omega (arith, some);
         }
 
-        pub unwound : {next : Machine} → rules.Next (stateOf stack next) ≡ unwind (stateOf stack m) (itemsOf stack (m .height)) → GoesOn so-far stack next
-        unwound e = goes-on so-far one left (rule ∙ sym e) refl refl
+        pub unwound : {next : Machine} → Unwinds stack m next → GoesOn so-far stack next
+        unwound e = goes-on so-far one left (rule ∙ e) refl refl

@@ -9,14 +9,14 @@
 --                         the rule for a machine that runs, and for one that unwinds
 --
 -- Assumes nothing.
-use Prim.Native.Nat.{ℕ, suc, _+_, _-_, _≤_, _<_}
+use Prim.Native.Nat.{ℕ, suc, _-_, _≤_, _<_}
 use native.Mathlib.Omega.{arith}
 use lib.ListN.{length, drop, getElem?}
 use mathlib.Core.Bool.{true, false}
 use mathlib.Core.List.{List}
-use mathlib.Core.Path.{_≡_, refl, ap, sym, _∙_}
+use mathlib.Core.Path.{_≡_, refl, sym, _∙_}
 use Rattle.rules.specs.Limits.{itemLimit, stackBytes, stepLimit}
-use Rattle.rules.specs.Machine.{State, Placing, Next, Over, Stuck, step, stepIn, stepAt, unwind}
+use Rattle.rules.specs.Machine.{Placing, Next, Over, Stuck, step, stepIn, stepAt, unwind}
 use Rattle.rules.specs.Run.{answer, tooManySteps, run}
 use Rattle.rules.specs.declared.Answer.{Answer}
 use Rattle.rules.specs.declared.Instruction.{Instruction}

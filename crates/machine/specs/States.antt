@@ -13,6 +13,8 @@
 --   Steppable, Unwindable
 --              all that a step asks, running and unwinding
 --   Does       a step does what a rule says, and moves nothing past the stack's bytes
+--   Carries, Pushes, Steps, Unwinds
+--              the rules by name
 --
 -- Assumes nothing.
 use Prim.Native.Nat.{ℕ, _+_, _≤_, _<_}
@@ -21,9 +23,13 @@ use mathlib.Core.Bool.{Bool, false, cond}
 use mathlib.Core.List.{List}
 use mathlib.Core.Path.{_≡_}
 use Rattle.rules.specs.Bytes.{records}
+use Rattle.rules.specs.CodeBytes.{instructions}
 use Rattle.rules.specs.Limits.{instructionLimit, itemLimit, stackBytes, stepLimit}
 use Rattle.rules.specs.Machine as rules
 use Rattle.rules.specs.Machine.{State, Running, Unwinding}
+use Rattle.rules.specs.Schedule.{asks}
+use Rattle.rules.specs.declared.Instruction.{Instruction}
+use Rattle.rules.specs.declared.Item.{Item}
 use Rattle.rules.specs.declared.Reason.{Reason}
 use Rattle.rules.specs.declared.Reason.the-variants.{StackFull}
 use Rattle.rules.specs.declared.Status.{Status}
@@ -103,3 +109,17 @@ pub record Unwindable (stack : List ℕ) (m : Machine) : Type 0 where
 pub record Does (rule : rules.Step) (stack : List ℕ) (m : Machine) (step : Step) (after : List ℕ) : Type 0 where
   pub ruled : stepOf after m step ≡ rule
   pub beyond : drop stackBytes after ≡ drop stackBytes stack
+
+-- an instruction carried out, an item pushed, a whole step
+abbrev pub Carries : Instruction → List ℕ → Machine → Step → List ℕ → Type 0
+Carries x stack m = Does (rules.execute x (m .address) (stateOf stack m)) stack m
+
+abbrev pub Pushes : Item → Status → List ℕ → Machine → Step → List ℕ → Type 0
+Pushes item i stack m = Does (rules.push item (m .address) (stateOf stack m) i) stack m
+
+abbrev pub Steps : List ℕ → List ℕ → List ℕ → Machine → Step → List ℕ → Type 0
+Steps code schedule stack m = Does (rules.step (instructions code) (asks schedule) (stateOf stack m)) stack m
+
+-- an item removed in unwinding
+abbrev pub Unwinds : List ℕ → Machine → Machine → Type 0
+Unwinds stack m next = rules.unwind (stateOf stack m) (itemsOf stack (m .height)) ≡ rules.Next (stateOf stack next)

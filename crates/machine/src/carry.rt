@@ -6,16 +6,15 @@ use super::step::Step;
 use rules::Item;
 use rules::Status;
 ghost use Prim.Native.Nat.{_<_};
-ghost use Rattle.rules.specs.Machine as rules;
 ghost use Rattle.rules.specs.declared.Instruction.the-variants as instruction;
 ghost use Rattle.machine.specs.Items.{handlerOf};
-ghost use Rattle.machine.specs.States.{stateOf, Ready, Does};
+ghost use Rattle.machine.specs.States.{Ready, Carries, Pushes};
 
 impl Machine {
     // PUSH, MARK and SET: an item more, and the status after it.
     pub(crate) fn push(self, stack: &mut [u8], item: Item, status: Status) -> Step
         requires { ⌜ Ready (now stack) self × (handlerOf item < 4294967296) ⌝ }
-        ensures { λ r. ⌜ Does (rules.push item (self .address) (stateOf (now (stack .entry)) self) status) (now (stack .entry)) self r (now (stack .exit)) ⌝ }
+        ensures { λ r. ⌜ Pushes item status (now (stack .entry)) self r (now (stack .exit)) ⌝ }
     {
         let height = self.height;
         if height == Machine::ITEMS {
@@ -28,7 +27,7 @@ impl Machine {
     // "ADD replaces the two top numbers by their sum."
     pub(crate) fn add(self, stack: &mut [u8]) -> Step
         requires { ⌜ Ready (now stack) self ⌝ }
-        ensures { λ r. ⌜ Does (rules.execute instruction.Add (self .address) (stateOf (now (stack .entry)) self)) (now (stack .entry)) self r (now (stack .exit)) ⌝ }
+        ensures { λ r. ⌜ Carries instruction.Add (now (stack .entry)) self r (now (stack .exit)) ⌝ }
     {
         let status = self.status;
         let height = self.height;
@@ -48,7 +47,7 @@ impl Machine {
     // "POP drops a top number."
     pub(crate) fn pop(self, stack: &mut [u8]) -> Step
         requires { ⌜ Ready (now stack) self ⌝ }
-        ensures { λ r. ⌜ Does (rules.execute instruction.Pop (self .address) (stateOf (now (stack .entry)) self)) (now (stack .entry)) self r (now (stack .exit)) ⌝ }
+        ensures { λ r. ⌜ Carries instruction.Pop (now (stack .entry)) self r (now (stack .exit)) ⌝ }
     {
         let status = self.status;
         let height = self.height;
@@ -64,7 +63,7 @@ impl Machine {
     // "UNMARK needs a number over a handler: it removes the handler, keeps the number, goes on at its target."
     pub(crate) fn unmark(self, stack: &mut [u8], target: usize) -> Step
         requires { ⌜ Ready (now stack) self ⌝ }
-        ensures { λ r. ⌜ Does (rules.execute (instruction.Unmark target) (self .address) (stateOf (now (stack .entry)) self)) (now (stack .entry)) self r (now (stack .exit)) ⌝ }
+        ensures { λ r. ⌜ Carries (instruction.Unmark target) (now (stack .entry)) self r (now (stack .exit)) ⌝ }
     {
         let status = self.status;
         let height = self.height;
@@ -84,7 +83,7 @@ impl Machine {
     // "RESET needs a number over a saved status: it restores that status and keeps the number."
     pub(crate) fn reset(self, stack: &mut [u8]) -> Step
         requires { ⌜ Ready (now stack) self ⌝ }
-        ensures { λ r. ⌜ Does (rules.execute instruction.Reset (self .address) (stateOf (now (stack .entry)) self)) (now (stack .entry)) self r (now (stack .exit)) ⌝ }
+        ensures { λ r. ⌜ Carries instruction.Reset (now (stack .entry)) self r (now (stack .exit)) ⌝ }
     {
         let height = self.height;
         if height < 2 {

@@ -3,7 +3,6 @@
 use rules::Instruction;
 use rules::Reason;
 use rules::Refusal;
-use rules::Status;
 ghost use mathlib.Core.Path.{_≡_};
 ghost use Prim.Native.Nat.{_+_, _*_, _<_};
 ghost use lib.ListN.{length};

@@ -7,10 +7,9 @@ use rules::Instruction;
 use rules::Item;
 use rules::Status;
 ghost use mathlib.Core.Path.{_≡_};
-ghost use Rattle.rules.specs.CodeBytes.{instructions};
-ghost use Rattle.rules.specs.Machine as rules;
+ghost use Rattle.rules.specs.Machine.{cuts};
 ghost use Rattle.rules.specs.Schedule.{asks};
-ghost use Rattle.machine.specs.States.{stateOf, Steppable, Does};
+ghost use Rattle.machine.specs.States.{Steppable, Steps};
 
 // What a step comes to: the next state, or no step: a push onto 512 items (13), or no rule for the instruction (14).
 pub enum Step {
@@ -23,7 +22,7 @@ impl Machine {
     // A step of a state that runs at an instruction.
     pub(crate) fn step(self, code: &[u8], schedule: &[u8], stack: &mut [u8]) -> Step
         requires { ⌜ Steppable (now code) (now stack) self ⌝ }
-        ensures { λ r. ⌜ Does (rules.step (instructions (now (code .entry))) (asks (now (schedule .entry))) (stateOf (now (stack .entry)) self)) (now (stack .entry)) self r (now (stack .exit)) ⌝ }
+        ensures { λ r. ⌜ Steps (now (code .entry)) (now (schedule .entry)) (now (stack .entry)) self r (now (stack .exit)) ⌝ }
     {
         let present = self.status;
         if self.cut(schedule) {
@@ -43,7 +42,7 @@ impl Machine {
 
     // "If the status is unblocked and the schedule asks for a recall here."
     fn cut(self, schedule: &[u8]) -> bool
-        ensures { λ r. ⌜ r ≡ rules.cuts (self .status) (asks (now (schedule .entry)) (self .reached)) ⌝ }
+        ensures { λ r. ⌜ r ≡ cuts (self .status) (asks (now (schedule .entry)) (self .reached)) ⌝ }
     {
         let status = self.status;
         match status {

@@ -3,17 +3,14 @@
 use super::item;
 use super::state::Machine;
 use rules::Item;
-ghost use mathlib.Core.Path.{_≡_};
-ghost use Rattle.rules.specs.Machine as rules;
-ghost use Rattle.machine.specs.Items.{itemsOf};
-ghost use Rattle.machine.specs.States.{stateOf, Unwindable};
+ghost use Rattle.machine.specs.States.{Unwindable, Unwinds};
 
 impl Machine {
     // "A step removes the top item: a number is dropped, a saved status is restored, a handler makes the state running at its
     // address." It reads no schedule, and reaches no instruction.
     pub(crate) fn unwind(self, stack: &[u8]) -> Self
         requires { ⌜ Unwindable (now stack) self ⌝ }
-        ensures { λ r. ⌜ rules.Next (stateOf (now (stack .entry)) r) ≡ rules.unwind (stateOf (now (stack .entry)) self) (itemsOf (now (stack .entry)) (self .height)) ⌝ }
+        ensures { λ r. ⌜ Unwinds (now (stack .entry)) self r ⌝ }
     {
         let present = self.status;
         let height = self.height - 1;

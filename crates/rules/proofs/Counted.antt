@@ -7,7 +7,7 @@
 --   run-limit              with no steps left such a step is not taken: 15
 --
 -- Assumes nothing.
-use Prim.Native.Nat.{ℕ, zero, suc, _+_, _≤_, _<_}
+use Prim.Native.Nat.{ℕ, zero, _+_, _≤_, _<_}
 use native.Mathlib.Omega.{arith}
 use borrow.Author.Tests.{ltb-true}
 use lib.Dec.{ltb}
@@ -17,7 +17,7 @@ use mathlib.Core.Bool.{Bool, true, false, cond}
 use mathlib.Core.List.{List, [], _∷_}
 use mathlib.Core.Path.{_≡_, refl}
 use Rattle.rules.specs.Limits.{itemLimit}
-use Rattle.rules.specs.Machine.{State, Mode, Step, Placing, Next, Over, Stuck, onward, unwound, withNumber, withHandler, withSaved, push, execute, cuts, atInstruction, unwind, step}
+use Rattle.rules.specs.Machine.{State, Mode, Step, Placing, Next, Over, Stuck, onward, withNumber, withHandler, withSaved, push, execute, cuts, atInstruction, unwind, step}
 use Rattle.rules.specs.Run.{answer, tooManySteps, run}
 use Rattle.rules.specs.declared.Instruction.{Instruction}
 use Rattle.rules.specs.declared.Instruction.the-variants.{Push, Throw, Add, Pop, Mark, Unmark, Set, Reset}

@@ -8,7 +8,7 @@
 use Prim.Native.Nat.{ℕ}
 use mathlib.Core.Bool.{Bool, true}
 use mathlib.Core.List.{List}
-use mathlib.Core.Option.{Option, none, some}
+use mathlib.Core.Option.{none, some}
 use Rattle.rules.specs.Bytes.{allZero, records}
 use Rattle.rules.specs.Refusals.{firstRefusal, checkedBy}
 use Rattle.rules.specs.Table.{kindNumbered, nodeAt, nodeTest, tableTests}

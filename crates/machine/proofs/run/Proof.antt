@@ -1,6 +1,6 @@
 -- `machine::run` meets its contract: the tests in their order, then the run, then the stack cleared. Assumes nothing.
 use borrow.Author.Needs.{needs}
-use mathlib.Core.Path.{sym, ap, _∙_}
+use mathlib.Core.Path.{sym, _∙_}
 use Rattle.machine.proofs.Answering.{status-refused, stack-refused, code-refused, ran, runnable}
 use Rattle.machine.proofs.run.Statement.{statement}
 use Rattle.machine.proofs.run.Tie as tie
@@ -10,16 +10,20 @@ refused-requires c κs = search needs
 
 returns : tie.Need-returns
 returns c =
-    let s = c .before .before .before .before .before .args in
-    rw (c .refused .ensures) (status-refused (s .status) (s .code .now) (s .schedule .now) (s .stack .now) (c .before .if1 .taken))
+    let wrong = c .before in
+    let s = wrong .before .before .before .before .args in
+    rw (c .refused .ensures) (status-refused (s .status) (s .code .now) (s .schedule .now) (s .stack .now) (wrong .if1 .taken))
 
 refused-requires-2 : tie.Need-refused-requires-2
 refused-requires-2 c κs = search needs
 
 returns-2 : tie.Need-returns-2
 returns-2 c =
-    let s = c .before .before .before .before .before .before .args in
-    rw (c .refused2 .ensures) (stack-refused (s .status) (s .code .now) (s .schedule .now) (s .stack .now) (c .before .before .if1 .left) (c .before .if2 .taken))
+    let short = c .before in
+    let right = short .before in
+    let s = right .before .before .before .before .args in
+    rw (c .refused2 .ensures)
+    (stack-refused (s .status) (s .code .now) (s .schedule .now) (s .stack .now) (right .if1 .left) (short .if2 .taken))
 
 check-requires : tie.Need-check-requires
 check-requires c κs = search needs
@@ -32,9 +36,13 @@ numbered-requires c κs = search needs
 
 repeat-requires : tie.Need-repeat-requires
 repeat-requires c κs =
-    let s = c .before .before .before .before .before .before .before .before .before .before .args in
-    let accepted = sym (c .before .before .before .before .check .ensures) ∙ c .before .before .enum-told .given .1 in
-    runnable (s .status) (s .code .now) (s .schedule .now) (s .stack .now) (c .before .before .before .before .before .before .if1 .left) (c .before .before .before .before .before .if2 .left) accepted
+    let told = c .before .before in
+    let checked = told .before .before in
+    let room = checked .before in
+    let right = room .before in
+    let s = right .before .before .before .before .args in
+    runnable (s .status) (s .code .now) (s .schedule .now) (s .stack .now) (right .if1 .left) (room .if2 .left)
+    (sym (checked .check .ensures) ∙ told .enum-told .given .1)
 
 clear-requires : tie.Need-clear-requires
 clear-requires c κs = search needs
@@ -50,18 +58,29 @@ same-length c = search needs
 
 returns-3 : tie.Need-returns-3
 returns-3 c =
-    let s = c .before .before .before .before .before .before .before .before .before .before .before .before .before .before .before .before .before .args in
-    let accepted = sym (c .before .before .before .before .before .before .before .before .before .before .before .check .ensures) ∙ c .before .before .before .before .before .before .before .before .before .enum-told .given .1 in
-    let told = ran (s .status) (s .code .now) (s .schedule .now) (s .stack .now) (c .before .before .before .before .before .before .before .before .before .before .before .before .before .if1 .left) (c .before .before .before .before .before .before .before .before .before .before .before .before .if2 .left) accepted in
-    let repeated = c .before .before .before .before .before .before .repeat .ensures in
-    (repeated .answered ∙ rw (c .before .before .before .before .before .before .before .before .numbered .ensures) (told .0), c .before .before .clear .ensures ∙ rw (repeated .beyond) (told .1))
+    let repeated = c .before .before .before .before .before .before in
+    let status = repeated .before .before in
+    let told = status .before in
+    let checked = told .before .before in
+    let room = checked .before in
+    let right = room .before in
+    let s = right .before .before .before .before .args in
+    let (answer, leaves) =
+    ran (s .status) (s .code .now) (s .schedule .now) (s .stack .now) (right .if1 .left) (room .if2 .left)
+    (sym (checked .check .ensures) ∙ told .enum-told .given .1) in
+    let run = repeated .repeat .ensures in
+    (run .answered ∙ rw (status .numbered .ensures) answer, c .before .before .clear .ensures ∙ rw (run .beyond) leaves)
 
 returns-4 : tie.Need-returns-4
 returns-4 c =
-    let s = c .before .before .before .before .before .before .before .before .before .before .args in
-    let refused = sym (c .before .before .before .before .check .ensures) ∙ c .before .before .refusal .given .1 in
+    let told = c .before .before in
+    let checked = told .before .before in
+    let room = checked .before in
+    let right = room .before in
+    let s = right .before .before .before .before .args in
     rw (c .refused3 .ensures)
-    (code-refused (s .status) (s .code .now) (s .schedule .now) (s .stack .now) (c .before .before .before .before .before .before .if1 .left) (c .before .before .before .before .before .if2 .left) refused)
+    (code-refused (s .status) (s .code .now) (s .schedule .now) (s .stack .now) (right .if1 .left) (room .if2 .left)
+    (sym (checked .check .ensures) ∙ told .refusal .given .1))
 
 pub run-spec : {M : Type 1} → statement M
 run-spec =

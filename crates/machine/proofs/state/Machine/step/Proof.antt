@@ -7,13 +7,11 @@ use mathlib.Core.Path.{_≡_, sym, _∙_}
 use mir.Syntax.{w32}
 use mir.Val.{SFits}
 use mir.Facts.{toZ-ofZ}
-use Rattle.rules.specs.CodeBytes.{instructions}
-use Rattle.rules.specs.Machine.{execute, step}
-use Rattle.rules.specs.Schedule.{asks}
+use Rattle.rules.specs.Machine.{execute}
 use Rattle.rules.specs.declared.Instruction.{Instruction}
 use Rattle.machine.specs.Items.{handlerOf}
 use Rattle.machine.specs.Reading.{targetOf}
-use Rattle.machine.specs.States.{stateOf, Does}
+use Rattle.machine.specs.States.{Carries, Steps}
 use Rattle.machine.specs.declared.step.Step.{Step}
 use Rattle.machine.proofs.Stepping.{cut, carried-out, thrown}
 use Rattle.machine.proofs.state.Machine.step.Statement.{statement}
@@ -30,9 +28,9 @@ returns c =
     let s = c .before .before .before .before .before .before in
     rw (c .onward .ensures) (cut (s .pre) (s .args .schedule .now) (sym (c .before .if1 .taken) ∙ c .before .before .cut .ensures))
 
-carried : (c : tie.After-at) {x : Instruction} → c .at .result ≡ x → {r : Step} {after : List ℕ}
-    → Does (execute x (c .before .before .before .before .before .before .args .self .address) (stateOf (c .before .before .before .before .before .before .args .stack .now) (c .before .before .before .before .before .before .args .self))) (c .before .before .before .before .before .before .args .stack .now) (c .before .before .before .before .before .before .args .self) r after
-    → Does (step (instructions (c .before .before .before .before .before .before .args .code .now)) (asks (c .before .before .before .before .before .before .args .schedule .now)) (stateOf (c .before .before .before .before .before .before .args .stack .now) (c .before .before .before .before .before .before .args .self))) (c .before .before .before .before .before .before .args .stack .now) (c .before .before .before .before .before .before .args .self) r after
+-- what is done by the instruction's rule is done by the step's
+carried : (c : tie.After-at) {x : Instruction} {r : Step} {after : List ℕ} → let s = c .before .before .before .before .before .before .args in c .at .result ≡ x
+    → Carries x (s .stack .now) (s .self) r after → Steps (s .code .now) (s .schedule .now) (s .stack .now) (s .self) r after
 carried c told does =
     let s = c .before .before .before .before .before .before in
     let uncut = sym (c .before .if1 .left) ∙ c .before .before .cut .ensures in
@@ -71,7 +69,10 @@ enum-known-target c = search needs
 
 push-requires-2 : tie.Need-push-requires-2
 unfolding handlerOf targetOf
-push-requires-2 c κs = (c .before .before .before .before .before .before .before .before .before .before .pre .ready, rw (c .before .before .target .given .1) at (c .before .before .before .before .at .ensures .1))
+push-requires-2 c κs =
+    let told = c .before .before in
+    let read = told .before .before in
+    (read .before .before .before .before .before .before .pre .ready, rw (told .target .given .1) at (read .at .ensures .1))
 
 enum-known-target-2 : tie.Need-enum-known-target-2
 enum-known-target-2 c = search needs
@@ -97,48 +98,56 @@ same-length c = search needs
 
 returns-2 : tie.Need-returns-2
 unfolding execute
-returns-2 c = let fits : SFits w32 (c .before .before .before .before .before .n .given .0 .0) = record { sfits = c .before .before .before .before .known-told .given .0 .1 } in carried (c .before .before .before .before .before .before .before) (c .before .before .before .before .before .n .given .1) (rw (toZ-ofZ fits) at (c .before .before .push .ensures))
+returns-2 c =
+    let ranged = c .before .before .before .before in
+    let told = ranged .before in
+    let fits : SFits w32 (told .n .given .0 .0) = record { sfits = ranged .known-told .given .0 .1 } in
+    carried (told .before .before) (told .n .given .1) (rw (toZ-ofZ fits) at (c .before .before .push .ensures))
 
 returns-3 : tie.Need-returns-3
-returns-3 c = let s = c .before .before .before .before .before .before .before .before .before .args in rw (c .onward2 .ensures) (carried (c .before .before .before) (c .before .enum-told .given .1) (thrown (s .stack .now) (s .self)))
+returns-3 c =
+    let told = c .before in
+    let read = told .before .before in
+    let s = read .before .before .before .before .before .before .args in
+    rw (c .onward2 .ensures) (carried read (told .enum-told .given .1) (thrown (s .stack .now) (s .self)))
 
 same-length-2 : tie.Need-same-length-2
 same-length-2 c = search needs
 
 returns-4 : tie.Need-returns-4
-returns-4 c = carried (c .before .before .before .before .before .before) (c .before .before .before .before .enum-told2 .given .1) (c .before .before .add .ensures)
+returns-4 c = let told = c .before .before .before .before in carried (told .before .before) (told .enum-told2 .given .1) (c .before .before .add .ensures)
 
 same-length-3 : tie.Need-same-length-3
 same-length-3 c = search needs
 
 returns-5 : tie.Need-returns-5
-returns-5 c = carried (c .before .before .before .before .before .before) (c .before .before .before .before .enum-told3 .given .1) (c .before .before .pop .ensures)
+returns-5 c = let told = c .before .before .before .before in carried (told .before .before) (told .enum-told3 .given .1) (c .before .before .pop .ensures)
 
 same-length-4 : tie.Need-same-length-4
 same-length-4 c = search needs
 
 returns-6 : tie.Need-returns-6
 unfolding execute
-returns-6 c = carried (c .before .before .before .before .before .before .before) (c .before .before .before .before .before .target .given .1) (c .before .before .push2 .ensures)
+returns-6 c = let told = c .before .before .before .before .before in carried (told .before .before) (told .target .given .1) (c .before .before .push2 .ensures)
 
 same-length-5 : tie.Need-same-length-5
 same-length-5 c = search needs
 
 returns-7 : tie.Need-returns-7
-returns-7 c = carried (c .before .before .before .before .before .before .before) (c .before .before .before .before .before .target2 .given .1) (c .before .before .unmark .ensures)
+returns-7 c = let told = c .before .before .before .before .before in carried (told .before .before) (told .target2 .given .1) (c .before .before .unmark .ensures)
 
 same-length-6 : tie.Need-same-length-6
 same-length-6 c = search needs
 
 returns-8 : tie.Need-returns-8
 unfolding execute
-returns-8 c = carried (c .before .before .before .before .before .before .before) (c .before .before .before .before .before .status .given .1) (c .before .before .push3 .ensures)
+returns-8 c = let told = c .before .before .before .before .before in carried (told .before .before) (told .status .given .1) (c .before .before .push3 .ensures)
 
 same-length-7 : tie.Need-same-length-7
 same-length-7 c = search needs
 
 returns-9 : tie.Need-returns-9
-returns-9 c = carried (c .before .before .before .before .before .before) (c .before .before .before .before .enum-told4 .given .1) (c .before .before .reset .ensures)
+returns-9 c = let told = c .before .before .before .before in carried (told .before .before) (told .enum-told4 .given .1) (c .before .before .reset .ensures)
 
 pub step-spec : {M : Type 1} → statement M
 step-spec =
