@@ -11,13 +11,11 @@ use Prim.Native.Nat.{ℕ, zero, _+_, _≤_, _<_}
 use native.Mathlib.Omega.{arith}
 use borrow.Author.Tests.{ltb-true}
 use lib.Dec.{ltb}
-use lib.IntN.{ℤ}
 use lib.ListN.{length}
-use mathlib.Core.Bool.{Bool, true, false, cond}
 use mathlib.Core.List.{List, [], _∷_}
-use mathlib.Core.Path.{_≡_, refl}
+use mathlib.Core.Path.{_≡_, refl, ap}
 use Rattle.rules.specs.Limits.{itemLimit}
-use Rattle.rules.specs.Machine.{State, Mode, Step, Placing, Next, Over, Stuck, onward, withNumber, withHandler, withSaved, push, execute, cuts, atInstruction, unwind, step}
+use Rattle.rules.specs.Machine.{State, Mode, Step, Placing, Next, Over, Stuck, onward, push, execute, cuts, atInstruction, unwind, step}
 use Rattle.rules.specs.Run.{answer, tooManySteps, run}
 use Rattle.rules.specs.declared.Instruction.{Instruction}
 use Rattle.rules.specs.declared.Instruction.the-variants.{Push, Throw, Add, Pop, Mark, Unmark, Set, Reset}
@@ -25,6 +23,7 @@ use Rattle.rules.specs.declared.Item.{Item}
 use Rattle.rules.specs.declared.Item.the-variants.{Number, Handler, Saved}
 use Rattle.rules.specs.declared.Status.{Status}
 use Rattle.rules.proofs.Order.{run-limit-next, run-limit-stuck}
+use Rattle.rules.proofs.Ways.{either, with-number, with-handler, with-saved}
 
 pub record CountsOne (s next : State) : Type 0 where
   pub steps : next .steps ≡ s .steps + 1
@@ -35,37 +34,6 @@ abbrev pub Counted : State → Step → Type 0
 Counted s (Next next) = CountsOne s next
 Counted s (Over o) = ⊥
 Counted s (Stuck r) = Unit
-
--- ---- what is shown of each way is shown of the item that is looked for
-
-module _ (P : Step → Type 0) (otherwise : Step) (p : P otherwise) where
-  with-number : (items : List Item) (f : ℤ → List Item → Step) → ((n : ℤ) (rest : List Item) → length rest < length items → P (f n rest))
-      → P (withNumber items otherwise f)
-  unfolding withNumber
-  with-number [] f q = p
-  with-number (Number n ∷ rest) f q = q n rest (omega arith)
-  with-number (Handler h ∷ rest) f q = p
-  with-number (Saved i ∷ rest) f q = p
-
-  with-handler : (items : List Item) (f : List Item → Step) → ((rest : List Item) → length rest < length items → P (f rest))
-      → P (withHandler items otherwise f)
-  unfolding withHandler
-  with-handler [] f q = p
-  with-handler (Number n ∷ rest) f q = p
-  with-handler (Handler h ∷ rest) f q = q rest (omega arith)
-  with-handler (Saved i ∷ rest) f q = p
-
-  with-saved : (items : List Item) (f : Status → List Item → Step) → ((i : Status) (rest : List Item) → length rest < length items → P (f i rest))
-      → P (withSaved items otherwise f)
-  unfolding withSaved
-  with-saved [] f q = p
-  with-saved (Number n ∷ rest) f q = p
-  with-saved (Handler h ∷ rest) f q = p
-  with-saved (Saved i ∷ rest) f q = q i rest (omega arith)
-
-either : (P : Step → Type 0) (test : Bool) (x y : Step) → (test ≡ true → P x) → P y → P (cond test x y)
-either P true x y p q = p refl
-either P false x y p q = q
 
 -- ---- running at an instruction
 
@@ -84,14 +52,17 @@ module _ (s : State) (few : length (s .items) ≤ itemLimit) where
   execute-counted (Push n) a = push-counted (Number n) a (s .status)
   execute-counted Throw a = carried _ _ (s .items) few
   execute-counted Add a =
-      with-number (Counted s) _ tt (s .items) _ λ m below less. with-number (Counted s) _ tt below _ λ n rest lesser. carried _ _ (Number _ ∷ rest) (omega arith)
-  execute-counted Pop a = with-number (Counted s) _ tt (s .items) _ λ n rest less. carried _ _ rest (omega arith)
+      with-number (Counted s) _ tt (s .items) _ λ m below e. with-number (Counted s) _ tt below _ λ n rest f.
+      carried _ _ (Number _ ∷ rest) (omega (arith, ap length e, ap length f))
+  execute-counted Pop a = with-number (Counted s) _ tt (s .items) _ λ n rest e. carried _ _ rest (omega (arith, ap length e))
   execute-counted (Mark t) a = push-counted (Handler t) a (s .status)
   execute-counted (Unmark t) a =
-      with-number (Counted s) _ tt (s .items) _ λ n below less. with-handler (Counted s) _ tt below _ λ rest lesser. carried _ _ (Number n ∷ rest) (omega arith)
+      with-number (Counted s) _ tt (s .items) _ λ n below e. with-handler (Counted s) _ tt below _ λ h rest f.
+      carried _ _ (Number n ∷ rest) (omega (arith, ap length e, ap length f))
   execute-counted (Set i) a = push-counted (Saved (s .status)) a i
   execute-counted Reset a =
-      with-number (Counted s) _ tt (s .items) _ λ n below less. with-saved (Counted s) _ tt below _ λ i rest lesser. carried _ _ (Number n ∷ rest) (omega arith)
+      with-number (Counted s) _ tt (s .items) _ λ n below e. with-saved (Counted s) _ tt below _ λ i rest f.
+      carried _ _ (Number n ∷ rest) (omega (arith, ap length e, ap length f))
 
   pub instruction-counted : (asks : Placing) (a : ℕ) (x : Instruction) → Counted s (atInstruction asks s a x)
   unfolding atInstruction

@@ -1,3 +1,4 @@
+pub mod Addresses
 pub mod Along
 pub mod CodeBytes
 pub mod Completeness
@@ -16,4 +17,5 @@ pub mod Sizes
 pub mod Soundness
 pub mod Tests
 pub mod Tried
+pub mod Ways
 pub mod Witnesses
