@@ -16,7 +16,7 @@ pub(crate) fn check(code: &[u8]) -> Checked
     ensures { λ r. ⌜ r ≡ checkedBy (records (now (code .entry))) (firstRefusal (codeTests (now (code .entry)))) ⌝ }
 {
     let size = code.len();
-    if size == 0 || Machine::CODE_BYTES < size || size % 8 != 0 {
+    if size == 0 || Machine::INSTRUCTIONS < size / 8 || size % 8 != 0 {
         return Checked::Refused(Refusal {
             reason: Reason::CodeSize,
             place: 0,

@@ -18,14 +18,12 @@ pub struct Machine {
 impl Machine {
     // "A run takes at most 1,535 steps."
     pub const STEPS: usize = 1535;
-    // "The stack holds .. 512 items at most", of eight bytes each.
+    // A code has at most 8,184 bytes, eight for each instruction.
+    pub const INSTRUCTIONS: usize = 1023;
+    // "The stack holds numbers, handler addresses and saved statuses, 512 items at most", in eight bytes each.
     pub const ITEMS: usize = 512;
 
     pub const STACK_BYTES: usize = 4096;
-    // A code has at most 1,023 instructions, of eight bytes each.
-    pub const INSTRUCTIONS: usize = 1023;
-
-    pub const CODE_BYTES: usize = 8184;
 
     // "A fresh state has address 0, the starting status, an empty stack and zero counts."
     pub fn new(status: Status) -> Self

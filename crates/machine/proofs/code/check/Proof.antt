@@ -1,28 +1,32 @@
 -- `machine::code::check` meets its contract: the size, then the walk over the instructions. The invariant: the instructions
 -- before a have passed. The measure is how many are left. Assumes nothing.
-use Prim.Native.Nat.{_-_}
+use Prim.Native.Nat.{_-_, _%_, _≤_, _<_}
 use native.Mathlib.Omega.{arith}
 use borrow.Author.Tests.{ltb-true, ltb-false, eqb-true, eqb-false, not-true, not-false}
 use borrow.Author.Needs.{needs}
+use lib.ListN.{length}
 use mathlib.Core.Bool.{true}
 use mathlib.Core.Logic.{⊎-elim}
 use mathlib.Core.Path.{_≡_, refl, sym, _∙_}
-use Rattle.rules.specs.Bytes.{wholeRecords}
-use Rattle.rules.specs.Limits.{codeLimit}
+use Rattle.rules.specs.Bytes.{records, wholeRecords}
+use Rattle.rules.specs.Limits.{codeLimit, instructionLimit}
 use Rattle.rules.proofs.Sizes.{whole, whole-means, not-whole-none, not-whole-many, not-whole-part}
 use Rattle.machine.proofs.CodeWalk.{Walked, check-size, walk-begins, walk-goes-on, walk-stops, walk-ends}
 use Rattle.machine.proofs.code.check.Statement.{statement}
 use Rattle.machine.proofs.code.check.Tie as tie
 
 abbrev Inv-loop : tie.InvT-loop
-Inv-loop code size length a₀ a = Walked code a
+Inv-loop code size n a₀ a = Walked code a
 
 abbrev μ-loop : tie.MeasureT-loop
-μ-loop code size length a₀ a = length - a
+μ-loop code size n a₀ a = n - a
 
 sized : (c : tie.Else3 Inv-loop μ-loop) → wholeRecords codeLimit (c .before .before .before .before .args .code .now) ≡ true
 sized c =
-    whole _ _ (c .before .before .if1 .left) (ltb-false _ _ (c .before .if2 .left)) (eqb-true _ _ (not-false _ (c .if3 .left)))
+    let code = c .before .before .before .before .args .code .now in
+    let few : records code ≤ instructionLimit = ltb-false _ _ (c .before .if2 .left) in
+    let multiple : length code % 8 ≡ 0 = eqb-true _ _ (not-false _ (c .if3 .left)) in
+    whole codeLimit code (c .before .before .if1 .left) (omega arith) multiple
 
 returns : tie.Need-returns Inv-loop μ-loop
 returns c =
@@ -30,7 +34,7 @@ returns c =
     sym (check-size code (⊎-elim
     (λ w. not-whole-none _ code (w .taken))
     (⊎-elim
-    (λ w. not-whole-many _ code (ltb-true _ _ (w .1 .taken)))
+    (λ w. let many : instructionLimit < records code = ltb-true _ _ (w .1 .taken) in not-whole-many _ code (omega arith))
     (λ w. not-whole-part _ code (eqb-false _ _ (not-true _ (w .2 .taken)))))
     (c .if1 .came)))
 
