@@ -1,6 +1,6 @@
 // Tables at the limits of size, and past them (document 01, "The recipe table").
 
-use super::line::FRESH;
+use super::buffer::FRESH;
 use super::line::case;
 use super::line::line;
 use super::show;

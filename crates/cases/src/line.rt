@@ -1,13 +1,12 @@
 // The line of one case: NAME: ANSWER, LEFT, quiet QUIET.
 
+use super::buffer::FRESH;
+use super::buffer::untouched;
 use super::show;
 use rules::Compiled;
 use rules::Refusal;
 ghost use Prim.Native.Nat.{_≤_};
 ghost use Rattle.io.specs.Counts.{Counts};
-
-// Each byte of a code buffer before the call, so that a byte that was written shows.
-pub(crate) const FRESH: u8 = 0xA5;
 
 // A case with a code buffer of `room` bytes. The most that a case asks is the longest code, 8,184 bytes, and 16 more.
 pub(crate) fn case(name: &[u8], table: &[u8], room: usize)
@@ -66,16 +65,4 @@ fn refused(refusal: Refusal, buffer: &[u8]) {
     } else {
         show::text(b", buffer TOUCHED");
     }
-}
-
-// Whether every byte is still fresh.
-fn untouched(bytes: &[u8]) -> bool {
-    let mut i: usize = 0;
-    while i < bytes.len() {
-        if bytes[i] != FRESH {
-            return false;
-        }
-        i += 1;
-    }
-    true
 }

@@ -1,7 +1,7 @@
 // Recipes that compile, and one without the room for its code. Each record of a table stands on a line of its own (document 01, "The
 // recipe table").
 
-use super::line::FRESH;
+use super::buffer::FRESH;
 use super::line::case;
 use super::line::line;
 use super::show;

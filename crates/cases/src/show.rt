@@ -1,6 +1,7 @@
 // What is written of an answer, on standard output.
 
 use libc::STDOUT_FILENO;
+use rules::Answer;
 use rules::End;
 use rules::Outcome;
 use rules::Reason;
@@ -12,6 +13,16 @@ pub(crate) fn text(bytes: &[u8]) {
 
 pub(crate) fn count(n: usize) {
     io::print_decimal(STDOUT_FILENO, n as u64);
+}
+
+// What a run came to, and both totals.
+pub(crate) fn answer(answer: Answer) {
+    let end = answer.outcome;
+    outcome(end);
+    text(b" steps ");
+    count(answer.steps);
+    text(b" reached ");
+    count(answer.reached);
 }
 
 // An end, or a refusal in place of it.

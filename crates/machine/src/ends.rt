@@ -32,6 +32,7 @@ impl Machine {
     }
 }
 
+// A refusal, in place of an end.
 pub(crate) fn refused(reason: Reason, place: usize) -> Outcome
     ensures { λ r. ⌜ r ≡ Outcome.Refused (record { reason = reason; place = place }) ⌝ }
 {

@@ -1,15 +1,15 @@
--- `untouched` is safe and ends: each turn leaves a byte fewer to look at. Assumes nothing.
+-- `all` is safe and ends: each turn leaves a byte fewer to look at. Assumes nothing.
 use Prim.Native.Nat.{_-_}
 use borrow.Author.Needs.{needs}
 use lib.ListN.{length}
-use Rattle.cases.proofs.line.untouched.Statement.{statement}
-use Rattle.cases.proofs.line.untouched.Tie as tie
+use Rattle.cases.proofs.buffer.all.Statement.{statement}
+use Rattle.cases.proofs.buffer.all.Tie as tie
 
 abbrev Inv-loop : tie.InvT-loop
-Inv-loop bytes i₀ i = Unit
+Inv-loop bytes value i₀ i = Unit
 
 abbrev μ-loop : tie.MeasureT-loop
-μ-loop bytes i₀ i = length bytes - i
+μ-loop bytes value i₀ i = length bytes - i
 
 loop-holds : tie.Need-loop-holds Inv-loop μ-loop
 loop-holds c = search needs
@@ -32,8 +32,8 @@ loop-again c = search needs
 returns-2 : tie.Need-returns-2 Inv-loop μ-loop
 returns-2 c = search needs
 
-pub untouched-spec : {M : Type 1} → statement M
-untouched-spec =
+pub all-spec : {M : Type 1} → statement M
+all-spec =
     tie.close
     (tie.spec
     Inv-loop
