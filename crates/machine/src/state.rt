@@ -26,7 +26,7 @@ impl Machine {
     pub const STACK_BYTES: usize = 4096;
 
     // "A fresh state has address 0, the starting status, an empty stack and zero counts."
-    pub fn new(status: Status) -> Self
+    pub(crate) fn new(status: Status) -> Self
         ensures { λ r. ⌜ r ≡ freshOf status ⌝ }
     {
         Self {
@@ -40,7 +40,13 @@ impl Machine {
     }
 
     // An instruction was carried out or cut: both counts grow.
-    pub fn onward(self, unwinding: bool, address: usize, status: Status, height: usize) -> Self
+    pub(crate) fn onward(
+        self,
+        unwinding: bool,
+        address: usize,
+        status: Status,
+        height: usize,
+    ) -> Self
         requires { ⌜ Counting self ⌝ }
         ensures { λ r. ⌜ r ≡ onwardOf self unwinding address status height ⌝ }
     {
@@ -55,7 +61,13 @@ impl Machine {
     }
 
     // An item was removed in unwinding: no instruction is reached.
-    pub fn unwound(self, unwinding: bool, address: usize, status: Status, height: usize) -> Self
+    pub(crate) fn unwound(
+        self,
+        unwinding: bool,
+        address: usize,
+        status: Status,
+        height: usize,
+    ) -> Self
         requires { ⌜ Counting self ⌝ }
         ensures { λ r. ⌜ r ≡ unwoundOf self unwinding address status height ⌝ }
     {
