@@ -23,6 +23,7 @@ use Rattle.rules.specs.declared.Checked.the-variants.{Accepted}
 use Rattle.rules.specs.declared.Compiled.the-variants.{Length, Refused}
 use Rattle.rules.specs.declared.Reason.the-variants.{CodeBuffer}
 use Rattle.rules.specs.declared.Refusal.{Refusal}
+use Rattle.rules.proofs.Answered.{compile-passed, compile-refused}
 use Rattle.rules.proofs.Tests.{first-only, rows-passed, rows-refused}
 use Rattle.table.specs.Checking.{checkAnswer}
 use Rattle.table.proofs.Acceptance.{check-passed, check-refused, last-node, last-recipe, recipe-short}
@@ -33,8 +34,7 @@ use Rattle.compiler.proofs.Writing.{emitted-front}
 
 module _ (table code : List ℕ) where
   refused : {r : Refusal} → firstRefusal (compileTests table code) ≡ some r → (Refused r ≡ compileAnswer table code) × (code ≡ compileLeaves table code)
-  unfolding compileAnswer compileLeaves
-  refused e = (sym (rw (e, compileAnswer)), sym (rw (e, compileLeaves)))
+  refused e = let (answer, leaves) = compile-refused table code e in (sym answer, sym leaves)
 
   pub table-refused : {r : Refusal} → checkAnswer table ≡ Checked.Refused r → (Refused r ≡ compileAnswer table code) × (code ≡ compileLeaves table code)
   unfolding compileTests
@@ -74,9 +74,10 @@ module _ (table : List ℕ) {n : ℕ} (answer : checkAnswer table ≡ Accepted n
 
       pub compiled : {next : ℕ} {code' : List ℕ} → Emitted table (n - 1) code 0 next code'
           → (Length size ≡ compileAnswer table code) × (code' ≡ compileLeaves table code)
-      unfolding compileAnswer compileLeaves codeOf
+      unfolding codeOf
       compiled done =
+          let (answered, leaves) = compile-passed table code passed in
           let room : 8 * codeLength (recipe table) ≤ length code = omega (arith, size-recipe) in (
-            sym (rw (passed, compileAnswer) (ap Length (sym size-recipe))),
-            done .bytes ∙ rw (last-recipe table answer) (emitted-front code (recipe table) room ∙ sym (rw (passed, compileLeaves))),
+            ap Length size-recipe ∙ sym answered,
+            done .bytes ∙ rw (last-recipe table answer) (emitted-front code (recipe table) room ∙ sym leaves),
           )

@@ -32,6 +32,7 @@ use Rattle.rules.specs.declared.Node.the-variants.{Add, Seqn, Catch}
 use Rattle.rules.specs.declared.Outcome.{Outcome}
 use Rattle.rules.specs.declared.Outcome.the-variants.{Ended}
 use Rattle.rules.specs.declared.Refusal.{Refusal}
+use Rattle.rules.proofs.Answered.{evaluate-passed, evaluate-refused}
 use Rattle.table.specs.Acceptance.{AcceptedNode, Says}
 use Rattle.table.specs.Checking.{checkAnswer}
 use Rattle.table.proofs.Acceptance.{check-passed, check-refused, node-below, one-below, both-below, last-recipe}
@@ -94,9 +95,7 @@ module _ {table : List ℕ} {j left right : ℕ} (said : Says table j (Catch lef
 
 module _ (table : List ℕ) where
   pub accepted-ends : {n : ℕ} → checkAnswer table ≡ Accepted n → Ended (endAt table (n - 1)) ≡ evaluateAnswer table
-  unfolding evaluateAnswer
-  accepted-ends e = rw (check-passed table e .0, evaluateAnswer) (rw (last-recipe table e))
+  accepted-ends e = rw (evaluate-passed table (check-passed table e .0), last-recipe table e)
 
   pub refused-answers : {r : Refusal} → checkAnswer table ≡ Refused r → Outcome.Refused r ≡ evaluateAnswer table
-  unfolding evaluateAnswer
-  refused-answers e = rw (check-refused table e, evaluateAnswer)
+  refused-answers e = rw (evaluate-refused table (check-refused table e))

@@ -12,7 +12,7 @@ use borrow.Author.Tests.{lt-ltb, le-ltb, le-leb, lt-leb}
 use lib.ListN.{length, drop, replicate}
 use mathlib.Core.List.{List, _++_}
 use mathlib.Core.Option.{none, some}
-use mathlib.Core.Path.{_≡_, _∙_}
+use mathlib.Core.Path.{_≡_, sym, _∙_}
 use Rattle.rules.specs.Answers.{statusNumbered}
 use Rattle.rules.specs.Bytes.{records}
 use Rattle.rules.specs.CodeBytes.{instructions, codeTests}
@@ -24,6 +24,7 @@ use Rattle.rules.specs.Schedule.{asks}
 use Rattle.rules.specs.declared.Checked.the-variants.{Accepted, Refused}
 use Rattle.rules.specs.declared.Reason.the-variants.{Status, StackBuffer, CodeSize}
 use Rattle.rules.specs.declared.Refusal.{Refusal}
+use Rattle.rules.proofs.Answered.{run-passed, run-refused}
 use Rattle.rules.proofs.Sizes.{whole-means}
 use Rattle.rules.proofs.Tests.{unless-passed, first-none, checked-accepted, checked-refused}
 use Rattle.machine.specs.Runs.{Runnable}
@@ -35,8 +36,7 @@ module _ (status : ℕ) (code schedule stack : List ℕ) where
   Refuses r = (refusedAnswer r ≡ runAnswer status code schedule stack) × (stack ≡ runLeaves status code stack)
 
   by-tests : {r : Refusal} → firstRefusal (runTests status code stack) ≡ some r → Refuses r
-  unfolding runAnswer runLeaves
-  by-tests e = (rw (e, runAnswer), rw (e, runLeaves))
+  by-tests e = let (answer, leaves) = run-refused status code schedule stack e in (sym answer, sym leaves)
 
   pub status-refused : 1 < status → Refuses (record { reason = Status; place = 0 })
   unfolding runTests firstRefusal unless
@@ -61,8 +61,7 @@ module _ (status : ℕ) (code schedule stack : List ℕ) where
 
         pub ran : (runs (instructions code) (asks schedule) (statusNumbered status) ≡ runAnswer status code schedule stack)
             × (replicate stackBytes 0 ++ drop stackBytes stack ≡ runLeaves status code stack)
-        unfolding runAnswer runLeaves
-        ran = (rw (then-code, passed, runAnswer), rw (then-code, passed, runLeaves))
+        ran = let (answer, leaves) = run-passed status code schedule stack (then-code ∙ passed) in (sym answer, sym leaves)
 
         pub runnable : Runnable code stack
         unfolding codeTests

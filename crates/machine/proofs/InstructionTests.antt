@@ -10,12 +10,12 @@
 -- Assumes nothing.
 use Prim.Native.Nat.{ℕ, _+_, _*_}
 use native.Mathlib.Omega.{arith}
-use borrow.Author.Tests.{eq-eqb, eqb-true}
+use borrow.Author.Tests.{eq-eqb, ne-eqb}
 use lib.Dec.{eqb}
-use mathlib.Core.Bool.{Bool, true, false, _&&_, and-eq-true-iff, and-false}
+use mathlib.Core.Bool.{true, false, _&&_, and-false}
 use mathlib.Core.List.{List, [], _∷_}
 use mathlib.Core.Option.{Option, none, some}
-use mathlib.Core.Path.{_≡_, refl, _∙_}
+use mathlib.Core.Path.{_≡_, refl, sym, _∙_}
 use Rattle.rules.specs.Bytes.{byteAt, halfAt, wordAt, allZero, records}
 use Rattle.rules.specs.CodeBytes.{OpcodeRow, opcodeNumbered, opcodeAt, operandAt, instructionAt}
 use Rattle.rules.specs.CodeBytes.{operandFits, targetFits, instructionTest}
@@ -23,45 +23,22 @@ use Rattle.rules.specs.Refusals.{unless, firstRefusal}
 use Rattle.rules.specs.declared.Instruction.{Instruction}
 use Rattle.rules.specs.declared.Reason.the-variants.{Opcode, Field, Target}
 use Rattle.rules.specs.declared.Refusal.{Refusal}
+use Rattle.rules.proofs.Records.{zero-padding}
 use Rattle.machine.specs.Reading.{readingAt, operandFitsAt, targetFitsAt}
 use Rattle.machine.specs.declared.instruction.Reading.the-variants.{Sound, Refused}
 use Rattle.machine.proofs.Opcodes.{Known, opcode-at}
 
 -- ---- bytes 1 to 3
 
-module _ (code : List ℕ) (base : ℕ) where
-  zero-first : (offset : ℕ) (offsets : List ℕ) → allZero code base (offset ∷ offsets) ≡ true
-      → (byteAt code (base + offset) ≡ 0) × (allZero code base offsets ≡ true)
-  unfolding allZero
-  zero-first offset offsets e =
-      let (first, later) = and-eq-true-iff (eqb (byteAt code (base + offset)) 0) (allZero code base offsets) .0 e in
-      (eqb-true (byteAt code (base + offset)) 0 first, later)
+module _ (code : List ℕ) (base : ℕ) {first others : ℕ} (one : first ≡ byteAt code (base + 1)) (two : others ≡ halfAt code (base + 2)) where
+  padding : allZero code base (1 ∷ 2 ∷ 3 ∷ []) ≡ eqb (first + others) 0
+  padding = rw (one, two) (sym (zero-padding code base))
 
-  third : base + 2 + 1 ≡ base + 3
-  third = omega arith
+  pub padding-clean : first + others ≡ 0 → allZero code base (1 ∷ 2 ∷ 3 ∷ []) ≡ true
+  padding-clean e = padding ∙ eq-eqb (first + others) 0 e
 
-  module _ {first others : ℕ} (one : first ≡ byteAt code (base + 1)) (two : others ≡ halfAt code (base + 2)) where
-    pub padding-clean : first + others ≡ 0 → allZero code base (1 ∷ 2 ∷ 3 ∷ []) ≡ true
-    unfolding halfAt allZero
-    padding-clean e =
-        let both = rw third at two in
-        let at-1 = eq-eqb (byteAt code (base + 1)) 0 (omega arith) in
-        let at-2 = eq-eqb (byteAt code (base + 2)) 0 (omega arith) in
-        rw (at-1, at-2, eq-eqb (byteAt code (base + 3)) 0 (omega arith))
-
-    all-zero : allZero code base (1 ∷ 2 ∷ 3 ∷ []) ≡ true → first + others ≡ 0
-    unfolding halfAt
-    all-zero e =
-        let (at-1, later) = zero-first 1 (2 ∷ 3 ∷ []) e in
-        let (at-2, last) = zero-first 2 (3 ∷ []) later in
-        rw (one, two, third, at-1, at-2, zero-first 3 [] last .0)
-
-    stray-by : (clean : Bool) → allZero code base (1 ∷ 2 ∷ 3 ∷ []) ≡ clean → (first + others ≡ 0 → ⊥) → clean ≡ false
-    stray-by true e stray = absurd (stray (all-zero e))
-    stray-by false e stray = refl
-
-    pub padding-stray : (first + others ≡ 0 → ⊥) → allZero code base (1 ∷ 2 ∷ 3 ∷ []) ≡ false
-    padding-stray = stray-by (allZero code base (1 ∷ 2 ∷ 3 ∷ [])) refl
+  pub padding-stray : (first + others ≡ 0 → ⊥) → allZero code base (1 ∷ 2 ∷ 3 ∷ []) ≡ false
+  padding-stray stray = padding ∙ ne-eqb (first + others) 0 stray
 
 -- ---- the tests of an instruction, and what reading it answers
 

@@ -15,7 +15,7 @@
 --   stored           all of it: the item was put
 --
 -- Assumes nothing.
-use Prim.Native.Nat.{ℕ, zero, suc, _+_, _*_, _/_, _%_, _^_, _≤_, _<_}
+use Prim.Native.Nat.{ℕ, zero, suc, _+_, _*_, _^_, _≤_, _<_}
 use native.Mathlib.Omega.{arith}
 use lib.IntN.{ℤ}
 use lib.ListN.{length, getD, set, drop, length-set}
@@ -32,6 +32,7 @@ use Rattle.rules.specs.Limits.{itemLimit, stackBytes}
 use Rattle.rules.specs.Number.{residue}
 use Rattle.rules.specs.declared.Item.{Item}
 use Rattle.rules.specs.declared.Item.the-variants.{Number}
+use Rattle.rules.proofs.Records.{word-whole}
 use Rattle.record.proofs.Signed.{signed-toZ, residue-ofZ}
 use Rattle.machine.specs.Items.{itemTagged, itemAt, itemsOf, Stored}
 
@@ -74,15 +75,6 @@ recorded stack k tag operand = sets stack (8 * k) (instructionRecord tag operand
 length-record : (tag operand : ℕ) → length (instructionRecord tag operand) ≡ 8
 unfolding instructionRecord wordBytes
 length-record tag operand = refl
-
--- the bytes of a word, put together again
-word-whole : (word : ℕ) → word < 2 ^ 32
-    → word % 256 + 256 * (word / 256 % 256) + 65536 * (word / 65536 % 256 + 256 * (word / 16777216 % 256)) ≡ word
-word-whole word h =
-    let second : word / 256 ≡ word / 256 % 256 + 256 * (word / 65536) = omega arith in
-    let third : word / 65536 ≡ word / 65536 % 256 + 256 * (word / 16777216) = omega arith in
-    let fourth : word / 16777216 % 256 ≡ word / 16777216 = omega arith in
-    omega (arith, second, third, fourth)
 
 module _ (stack : List ℕ) (k tag operand : ℕ) (room : 8 * k + 7 < length stack) where
   recorded-byte : (n : ℕ) → n < 8 → byteAt (recorded stack k tag operand) (8 * k + n) ≡ byteAt (instructionRecord tag operand) n

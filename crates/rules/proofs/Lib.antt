@@ -1,6 +1,9 @@
 pub mod Addresses
 pub mod Along
+pub mod AnswerBounds
+pub mod Answered
 pub mod CodeBytes
+pub mod CompiledCode
 pub mod Completeness
 pub mod Computing
 pub mod Counted
@@ -12,10 +15,15 @@ pub mod Lookup
 pub mod Order
 pub mod Path
 pub mod Quiet
+pub mod Records
+pub mod RefusedPlaces
 pub mod Rehearsed
+pub mod ScheduleBytes
 pub mod Sizes
 pub mod Soundness
+pub mod StepBounds
 pub mod Tests
 pub mod Tried
 pub mod Ways
 pub mod Witnesses
+pub mod WrittenCode

@@ -6,6 +6,7 @@
 --   first-only                      a row of one
 --   rows-passed, rows-refused       a row of tests, by its front
 --   first-none                      where a row refuses nothing, its first refuses nothing, nor do the others
+--   rows-none                       nor does its front
 --   lowest-next, lowest-found       one test at each place upward: a place passed, a place refused
 --   lowest-same                     two tests that agree at each place
 --   lowest-none                     where it refuses nothing, no place is refused
@@ -56,6 +57,12 @@ pub first-none : (test : Option Refusal) (tests : List (Option Refusal)) → fir
 unfolding firstRefusal
 first-none none tests e = (refl, e)
 first-none (some r) tests e = refused-not-passed e
+
+pub rows-none : (front back : List (Option Refusal)) → firstRefusal (front ++ back) ≡ none → firstRefusal front ≡ none
+unfolding firstRefusal
+rows-none [] back e = refl
+rows-none (none ∷ front) back e = rows-none front back e
+rows-none (some r ∷ front) back e = e
 
 pub rows-passed : (front back : List (Option Refusal)) → firstRefusal front ≡ none → firstRefusal (front ++ back) ≡ firstRefusal back
 unfolding firstRefusal

@@ -1,0 +1,123 @@
+-- What it means that compiling accepted a table: for a worker, that the refusal in its answer is 0.
+--
+--   Passes              no test 1 to 6 refuses a table and a buffer
+--   passes              so it is where the answer has no refusal
+--   table-passes, table-accepted
+--                       and the table is one of document 01's
+--   code-length         the length in the answer
+--   code-left           the code stands at the front of the buffer
+--   later-left          and later bytes are as they were
+--   few-nodes           its recipe has as many nodes as the table has records, at most 512
+--   short-code          its code is at most 1,023 instructions
+--   buffer-room         and the buffer holds it
+--   enough              a buffer of 8,184 bytes holds every code
+--
+-- Assumes nothing.
+use Prim.Native.Nat.{ℕ, _*_, _≤_}
+use native.Mathlib.Omega.{arith}
+use borrow.Author.Tests.{le-leb, leb-true}
+use lib.ListN.{length, take, drop}
+use lib.Seq.{take-at, drop-at}
+use mathlib.Core.List.{List}
+use mathlib.Core.Option.{Option, none, some}
+use mathlib.Core.Path.{_≡_, refl, sym, ap, _∙_}
+use Rattle.rules.specs.Answers.{compiledLength, compiledRefusal}
+use Rattle.rules.specs.Bytes.{records}
+use Rattle.rules.specs.Code.{codeLength}
+use Rattle.rules.specs.CodeBytes.{bytesOf}
+use Rattle.rules.specs.Compiling.{codeOf, compileTests, compileAnswer, compileLeaves}
+use Rattle.rules.specs.Expression.{nodes}
+use Rattle.rules.specs.Limits.{recordBytes, nodeLimit, codeLimit, instructionLimit}
+use Rattle.rules.specs.Recipe.{recipe}
+use Rattle.rules.specs.Refusals.{refusalNumber, unless, firstRefusal}
+use Rattle.rules.specs.Table.{tableTests}
+use Rattle.rules.specs.declared.Reason.{Reason}
+use Rattle.rules.specs.declared.Reason.the-variants.{TableSize, Kind, UnusedByte, Operand, Uses, CodeBuffer, Status, StackBuffer, CodeSize, Opcode, Field, Target, StackFull, NoRule, Steps}
+use Rattle.rules.specs.declared.Refusal.{Refusal}
+use Rattle.rules.proofs.Answered.{compile-passed, compile-refused}
+use Rattle.rules.proofs.CodeBytes.{length-bytesOf-compile}
+use Rattle.rules.proofs.Tests.{unless-passed, first-none, first-only, rows-none, rows-passed}
+use Rattle.table.specs.Acceptance.{AcceptedTable}
+use Rattle.table.proofs.Acceptance.{accepted, recipe-nodes, recipe-short}
+
+pub record Passes (table buffer : List ℕ) : Type 0 where
+  pub tests : firstRefusal (compileTests table buffer) ≡ none
+
+-- ---- the tests
+
+-- no refusal has the number 0
+numbered : (reason : Reason) → 1 ≤ refusalNumber reason
+unfolding refusalNumber
+numbered TableSize = omega arith
+numbered Kind = omega arith
+numbered UnusedByte = omega arith
+numbered Operand = omega arith
+numbered Uses = omega arith
+numbered CodeBuffer = omega arith
+numbered Status = omega arith
+numbered StackBuffer = omega arith
+numbered CodeSize = omega arith
+numbered Opcode = omega arith
+numbered Field = omega arith
+numbered Target = omega arith
+numbered StackFull = omega arith
+numbered NoRule = omega arith
+numbered Steps = omega arith
+
+module _ (table buffer : List ℕ) where
+  by-first : (first : Option Refusal) → firstRefusal (compileTests table buffer) ≡ first → compiledRefusal (compileAnswer table buffer) ≡ 0 → first ≡ none
+  unfolding compiledRefusal
+  by-first none e accepted = refl
+  by-first (some r) e accepted =
+      let number : refusalNumber (r .reason) ≡ 0 = rw (compile-refused table buffer e .0) at accepted in
+      absurd (omega (arith, numbered (r .reason)))
+
+  pub passes : compiledRefusal (compileAnswer table buffer) ≡ 0 → Passes table buffer
+  passes accepted = record { tests = by-first (firstRefusal (compileTests table buffer)) refl accepted }
+
+-- ---- the table, and its code
+
+module _ {table buffer : List ℕ} (all : Passes table buffer) where
+  pub table-passes : firstRefusal (tableTests table) ≡ none
+  unfolding compileTests
+  table-passes = rows-none (tableTests table) _ (all .tests)
+
+  pub table-accepted : AcceptedTable table
+  table-accepted = accepted table table-passes
+
+  pub few-nodes : (nodes (recipe table) ≡ records table) × (records table ≤ nodeLimit)
+  few-nodes = (recipe-nodes table-accepted, table-accepted .few)
+
+  pub short-code : codeLength (recipe table) ≤ instructionLimit
+  short-code = omega (arith, recipe-short table-accepted, table-accepted .few)
+
+  pub code-length : compiledLength (compileAnswer table buffer) ≡ codeLength (recipe table)
+  unfolding compiledLength
+  code-length = rw (compile-passed table buffer (all .tests) .0)
+
+  pub code-left : take (recordBytes * compiledLength (compileAnswer table buffer)) (compileLeaves table buffer) ≡ bytesOf (codeOf table)
+  unfolding codeOf
+  code-left =
+      rw (compile-passed table buffer (all .tests) .1) (take-at (bytesOf (codeOf table)) _ _ (length-bytesOf-compile 0 (recipe table) ∙ ap (λ n. 8 * n) (sym code-length)))
+
+  pub later-left : drop (recordBytes * compiledLength (compileAnswer table buffer)) (compileLeaves table buffer)
+      ≡ drop (recordBytes * compiledLength (compileAnswer table buffer)) buffer
+  unfolding codeOf
+  later-left =
+      rw (compile-passed table buffer (all .tests) .1, code-length)
+      (drop-at (bytesOf (codeOf table)) _ _ (length-bytesOf-compile 0 (recipe table)))
+
+  pub buffer-room : recordBytes * codeLength (recipe table) ≤ length buffer
+  unfolding compileTests
+  buffer-room =
+      let last = sym (rows-passed (tableTests table) _ table-passes) ∙ all .tests in
+      leb-true _ _ (unless-passed _ CodeBuffer 0 (first-none _ _ last .0))
+
+-- ---- a buffer for every table
+
+pub enough : (table buffer : List ℕ) → firstRefusal (tableTests table) ≡ none → codeLimit ≤ length buffer → firstRefusal (compileTests table buffer) ≡ none
+unfolding compileTests unless
+enough table buffer tests room =
+    let whole = accepted table tests in
+    let fits : recordBytes * codeLength (recipe table) ≤ length buffer = omega (arith, recipe-short whole, whole .few) in
+    rows-passed (tableTests table) _ tests ∙ first-only _ ∙ rw (le-leb (recordBytes * codeLength (recipe table)) (length buffer) fits)

@@ -1,0 +1,6 @@
+pub mod Accepted
+pub mod Demands
+pub mod Fits
+pub mod Inside
+pub mod Joined
+pub mod Numbered
