@@ -7,16 +7,17 @@ use Rattle.rules.specs.CodeBytes.{instructionRecord, instructionBytes, b
 use Rattle.rules.specs.Compiling.{codeOf, compileTests, compileAnswer, compileLeaves}
 use Rattle.rules.specs.Demand.{mostSteps, mostReached}
 use Rattle.rules.specs.Expression.{nodes}
+use Rattle.rules.specs.Line.{decimalWithin, decimal, integer, outcomeLine, answerLine, rehearsalLine}
 use Rattle.rules.specs.Machine.{withNumber, withHandler, withSaved, withNothing, push, execute, cuts, atInstruction, atLength, unwind, stepAt, stepIn, step}
 use Rattle.rules.specs.Number.{residue, signed, sum}
 use Rattle.rules.specs.Recipe.{ofNode, expressionWithin, expressionAt, recipe}
 use Rattle.rules.specs.Refusals.{refusalNumber, unless, firstRefusal, lowestRefusal}
-use Rattle.rules.specs.Rehearsal.{rehearse}
+use Rattle.rules.specs.Rehearsal.{rehearse, tooShort, rehearsal}
 use Rattle.rules.specs.Run.{run, runs}
 use Rattle.rules.specs.Running.{runTests, runAnswer, runLeaves}
 use Rattle.rules.specs.Schedule.{asks}
 use Rattle.rules.specs.Table.{kinds, kindNumbered, kindAt, nodeOf, nodeAt, operandsOf, allBelow, nodeTest, times, uses, useTest, tableTests}
 
 unfoldable pub computing : Unit {0}
-unfolding halfAt wordAt wordBytes allZero wholeRecords codeLength compile instructionRecord instructionBytes bytesOf opcodes opcodeNumbered opcodeAt instructionAt instructionsBelow instructions operandFits targetFits instructionTest codeTests codeOf compileTests compileAnswer compileLeaves withNumber withHandler withSaved withNothing push execute cuts atInstruction atLength unwind stepAt stepIn step residue signed sum ofNode expressionWithin expressionAt recipe statusNumber statusNumbered unless firstRefusal lowestRefusal rehearse run runs runTests runAnswer asks kinds kindNumbered kindAt nodeOf nodeAt operandsOf allBelow nodeTest times uses useTest tableTests runLeaves outcomeRefusal outcomePlace compiledLength compiledRefusal compiledPlace refusalNumber mostSteps mostReached nodes
+unfolding halfAt wordAt wordBytes allZero wholeRecords codeLength compile instructionRecord instructionBytes bytesOf opcodes opcodeNumbered opcodeAt instructionAt instructionsBelow instructions operandFits targetFits instructionTest codeTests codeOf compileTests compileAnswer compileLeaves withNumber withHandler withSaved withNothing push execute cuts atInstruction atLength unwind stepAt stepIn step residue signed sum ofNode expressionWithin expressionAt recipe statusNumber statusNumbered unless firstRefusal lowestRefusal rehearse run runs runTests runAnswer asks kinds kindNumbered kindAt nodeOf nodeAt operandsOf allBelow nodeTest times uses useTest tableTests runLeaves outcomeRefusal outcomePlace compiledLength compiledRefusal compiledPlace refusalNumber mostSteps mostReached nodes decimalWithin decimal integer outcomeLine answerLine tooShort rehearsal rehearsalLine
 computing = tt

@@ -11,6 +11,7 @@ pub mod Demand
 pub mod Foreign
 pub mod Holding
 pub mod Instructions
+pub mod Lines
 pub mod Lookup
 pub mod Order
 pub mod Path

@@ -8,6 +8,7 @@ pub mod Evaluating
 pub mod Evaluation
 pub mod Expression
 pub mod Limits
+pub mod Line
 pub mod Machine
 pub mod Number
 pub mod Recipe

@@ -53,7 +53,7 @@ comes status table schedule answer = record { status = status; table = table; sc
 -- ---- the tables
 
 -- Val 9
-abbrev justNine : List ℕ
+abbrev pub justNine : List ℕ
 justNine = eight 1 0 0 0 9 0 0 0
 
 -- Add (Val 5) (Catch (Add (Val 7) Throw) (Val 6))
@@ -76,7 +76,7 @@ abbrev openedBlockedFour : List ℕ
 openedBlockedFour = blockedFour ++ eight 7 0 1 0 0 0 0 0
 
 -- Add (Val 2147483647) (Val 1)
-abbrev addOverTheTop : List ℕ
+abbrev pub addOverTheTop : List ℕ
 addOverTheTop = eight 1 0 0 0 255 255 255 127 ++ eight 1 0 0 0 1 0 0 0 ++ eight 3 0 0 0 1 0 0 0
 
 -- Catch (Val 1) (Val 2)
@@ -84,7 +84,7 @@ abbrev caughtOne : List ℕ
 caughtOne = eight 1 0 0 0 1 0 0 0 ++ eight 1 0 0 0 2 0 0 0 ++ eight 5 0 0 0 1 0 0 0
 
 -- Val and Add 0 0
-abbrev usedTwice : List ℕ
+abbrev pub usedTwice : List ℕ
 usedTwice = eight 1 0 0 0 1 0 0 0 ++ eight 3 0 0 0 0 0 0 0
 
 -- ---- the list

@@ -1,0 +1,41 @@
+-- `line::number` meets its contract: its three parts follow one another. Assumes nothing.
+use borrow.Author.Needs.{needs}
+use mir.Facts.{toZ-ofZ}
+use Rattle.rehearse.proofs.Writing.{also-written}
+use Rattle.rehearse.proofs.line.number.Statement.{statement}
+use Rattle.rehearse.proofs.line.number.Tie as tie
+
+slice-aggregate-text : tie.Need-slice-aggregate-text
+slice-aggregate-text c = search needs
+
+text-requires : tie.Need-text-requires
+text-requires c κs = search needs
+
+integer-requires : tie.Need-integer-requires
+integer-requires c κs = search needs
+
+totals-requires : tie.Need-totals-requires
+totals-requires c κs = search needs
+
+same-length : tie.Need-same-length
+same-length c = search needs
+
+returns : tie.Need-returns
+returns c =
+    let ended = c .before .before in
+    let signed = ended .before .before .before .before in
+    let name = signed .before .before .before .before in
+    let start = name .before .before .before .before in
+    let named = also-written (name .text .ensures) (signed .integer .ensures .0) in
+    rw (toZ-ofZ (start .fits .n)) at (also-written named (ended .totals .ensures))
+
+pub number-spec : {M : Type 1} → statement M
+number-spec =
+    tie.close
+    (tie.spec
+    slice-aggregate-text
+    text-requires
+    integer-requires
+    totals-requires
+    same-length
+    returns)
