@@ -4,6 +4,7 @@ use mir.Facts.{toZ-ofZ}
 use mir.Syntax.{w32}
 use mir.Val.{SFits}
 use Rattle.rehearse.proofs.Fields.{number-kind, throw-kind, refused-kind}
+use Rattle.rehearse.proofs.Writing.{written-as}
 use Rattle.rehearse.proofs.line.answer.Statement.{statement}
 use Rattle.rehearse.proofs.line.answer.Tie as tie
 
@@ -25,7 +26,7 @@ returns c =
     let kind = told .before .before in
     let answer = kind .before .before .args .answer in
     let fits : SFits w32 (answer .number) = record { sfits = told .struct-told .given .1 .0 .1 } in
-    rw (toZ-ofZ fits, number-kind answer (kind .match .keys1)) at (c .before .before .number .ensures)
+    written-as (number-kind answer (kind .match .keys1)) (rw (toZ-ofZ fits) at (c .before .before .number .ensures))
 
 same-length-2 : tie.Need-same-length-2
 same-length-2 c = search needs
@@ -33,7 +34,7 @@ same-length-2 c = search needs
 returns-2 : tie.Need-returns-2
 returns-2 c =
     let kind = c .before .before .before .before in
-    rw (throw-kind (kind .before .before .args .answer) (kind .match .keys2)) at (c .before .before .throw .ensures)
+    written-as (throw-kind (kind .before .before .args .answer) (kind .match .keys2)) (c .before .before .throw .ensures)
 
 same-length-3 : tie.Need-same-length-3
 same-length-3 c = search needs
@@ -42,7 +43,7 @@ returns-3 : tie.Need-returns-3
 returns-3 c =
     let kind = c .before .before .before .before in
     let (not-number, not-throw) = kind .match .rest in
-    rw (refused-kind (kind .before .before .args .answer) (not-number .1) not-throw) at (c .before .before .refused .ensures)
+    written-as (refused-kind (kind .before .before .args .answer) (not-number .1) not-throw) (c .before .before .refused .ensures)
 
 pub answer-spec : {M : Type 1} → statement M
 answer-spec =
