@@ -6,7 +6,6 @@ mod code;
 mod ends;
 mod instruction;
 mod item;
-mod stack;
 mod state;
 mod status;
 mod step;
@@ -43,7 +42,7 @@ pub fn run(status: u8, code: &[u8], schedule: &[u8], stack: &mut [u8]) -> Answer
     match code::check(code) {
         Checked::Accepted(_) => {
             let answer = steps::repeat(status::numbered(status as u32), code, schedule, stack);
-            stack::clear(stack);
+            record::field::clear(stack, Machine::STACK_BYTES);
             answer
         }
         Checked::Refused(refusal) => refused(refusal),

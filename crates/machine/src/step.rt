@@ -5,10 +5,6 @@ use super::instruction;
 use super::state::Machine;
 use rules::Instruction;
 use rules::Item;
-use rules::Status;
-ghost use mathlib.Core.Path.{_≡_};
-ghost use Rattle.rules.specs.Machine.{cuts};
-ghost use Rattle.rules.specs.Schedule.{asks};
 ghost use Rattle.machine.specs.States.{Steppable, Steps};
 
 // What a step comes to: the next state, or no step: a push onto 512 items (13), or no rule for the instruction (14).
@@ -25,7 +21,7 @@ impl Machine {
         ensures { λ r. ⌜ Steps (now (code .entry)) (now (schedule .entry)) (now (stack .entry)) self r (now (stack .exit)) ⌝ }
     {
         let present = self.status;
-        if self.cut(schedule) {
+        if record::schedule::strikes(present, schedule, self.reached) {
             return Step::Next(self.onward(true, self.address, present, self.height));
         }
         match instruction::at(code, self.address) {
@@ -37,17 +33,6 @@ impl Machine {
             Instruction::Unmark(target) => self.unmark(stack, target),
             Instruction::Set(status) => self.push(stack, Item::Saved(present), status),
             Instruction::Reset => self.reset(stack),
-        }
-    }
-
-    // "If the status is unblocked and the schedule asks for a recall here."
-    fn cut(self, schedule: &[u8]) -> bool
-        ensures { λ r. ⌜ r ≡ cuts (self .status) (asks (now (schedule .entry)) (self .reached)) ⌝ }
-    {
-        let status = self.status;
-        match status {
-            Status::Blocked => false,
-            Status::Unblocked => record::schedule::asks(schedule, self.reached),
         }
     }
 }

@@ -1,8 +1,9 @@
 // Fields of lent bytes, little-endian (document 01, "The recipe table" and "The code"). Each asks that it lies inside.
 
+ghost use mathlib.Core.List.{_++_};
 ghost use mathlib.Core.Path.{_≡_};
-ghost use Prim.Native.Nat.{_+_, _<_};
-ghost use lib.ListN.{length};
+ghost use Prim.Native.Nat.{_+_, _≤_, _<_};
+ghost use lib.ListN.{length, drop, replicate};
 ghost use lib.Seq.{sets};
 ghost use Rattle.rules.specs.Bytes.{byteAt, halfAt, wordAt};
 ghost use Rattle.rules.specs.CodeBytes.{instructionRecord};
@@ -44,4 +45,16 @@ pub fn put(bytes: &mut [u8], at: usize, tag: u8, operand: u32)
     bytes[at + 5] = (operand / 256 % 256) as u8;
     bytes[at + 6] = (operand / 65536 % 256) as u8;
     bytes[at + 7] = (operand / 16777216 % 256) as u8;
+}
+
+// The first so many bytes, made zero.
+pub fn clear(bytes: &mut [u8], count: usize)
+    requires { ⌜ count ≤ length (now bytes) ⌝ }
+    ensures { λ _. ⌜ now (bytes .exit) ≡ replicate count 0 ++ drop count (now (bytes .entry)) ⌝ }
+{
+    let mut k: usize = 0;
+    while k < count {
+        bytes[k] = 0;
+        k += 1;
+    }
 }

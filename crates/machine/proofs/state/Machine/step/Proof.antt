@@ -17,8 +17,8 @@ use Rattle.machine.proofs.Stepping.{cut, carried-out, thrown}
 use Rattle.machine.proofs.state.Machine.step.Statement.{statement}
 use Rattle.machine.proofs.state.Machine.step.Tie as tie
 
-cut-requires : tie.Need-cut-requires
-cut-requires c κs = search needs
+strikes-requires : tie.Need-strikes-requires
+strikes-requires c κs = search needs
 
 onward-requires : tie.Need-onward-requires
 onward-requires c κs = search needs
@@ -26,14 +26,14 @@ onward-requires c κs = search needs
 returns : tie.Need-returns
 returns c =
     let s = c .before .before .before .before .before .before in
-    rw (c .onward .ensures) (cut (s .pre) (s .args .schedule .now) (sym (c .before .if1 .taken) ∙ c .before .before .cut .ensures))
+    rw (c .onward .ensures) (cut (s .pre) (s .args .schedule .now) (sym (c .before .if1 .taken) ∙ c .before .before .strikes .ensures))
 
 -- what is done by the instruction's rule is done by the step's
 carried : (c : tie.After-at) {x : Instruction} {r : Step} {after : List ℕ} → let s = c .before .before .before .before .before .before .args in c .at .result ≡ x
     → Carries x (s .stack .now) (s .self) r after → Steps (s .code .now) (s .schedule .now) (s .stack .now) (s .self) r after
 carried c told does =
     let s = c .before .before .before .before .before .before in
-    let uncut = sym (c .before .if1 .left) ∙ c .before .before .cut .ensures in
+    let uncut = sym (c .before .if1 .left) ∙ c .before .before .strikes .ensures in
     carried-out (s .pre) (s .args .schedule .now) uncut (sym told ∙ c .at .ensures .0) does
 
 at-requires : tie.Need-at-requires
@@ -153,7 +153,7 @@ pub step-spec : {M : Type 1} → statement M
 step-spec =
     tie.close
     (tie.spec
-    cut-requires
+    strikes-requires
     onward-requires
     returns
     at-requires

@@ -1,8 +1,8 @@
--- `machine::state::Machine::cut` meets its contract, status by status. Assumes nothing.
+-- `record::schedule::strikes` meets its contract, status by status. Assumes nothing.
 use borrow.Author.Needs.{needs}
 use Rattle.rules.specs.Machine.{cuts}
-use Rattle.machine.proofs.state.Machine.cut.Statement.{statement}
-use Rattle.machine.proofs.state.Machine.cut.Tie as tie
+use Rattle.record.proofs.schedule.strikes.Statement.{statement}
+use Rattle.record.proofs.schedule.strikes.Tie as tie
 
 enum-told : tie.Need-enum-told
 enum-told c = search needs
@@ -21,5 +21,5 @@ returns-2 : tie.Need-returns-2
 unfolding cuts
 returns-2 c = rw (c .before .enum-told2 .given .1, cuts) (c .asks .ensures)
 
-pub cut-spec : {M : Type 1} → statement M
-cut-spec = tie.close (tie.spec enum-told enum-told-2 asks-requires returns returns-2)
+pub strikes-spec : {M : Type 1} → statement M
+strikes-spec = tie.close (tie.spec enum-told enum-told-2 asks-requires returns returns-2)
