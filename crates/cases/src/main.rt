@@ -1,48 +1,21 @@
-// Compiles fixed tables into buffers of fixed sizes and writes one line of each: what compiling answers, what it left in the
-// buffer, and what the recipe ends in when no recall strikes. Then runs fixed codes under fixed schedules and writes one line of
-// each: what running answers, and what it left in the stack buffer. The lines can be held beside document 01 by eye.
+// Carries out the script on standard input, a text of cases whose head explains its language, and writes a line of each case: what the
+// exported functions answer, and what they left in the buffers lent to them.
 
 mod buffer;
-mod codes;
-mod foreign;
-mod limits;
-mod line;
-mod recipes;
-mod refusals;
-mod refused_codes;
-mod rehearsed;
-mod runs;
+mod command;
+mod compiling;
+mod filling;
+mod reading;
+mod running;
+mod script;
 mod show;
-mod step_limit;
-mod tables;
 
+// The most that a case has is an instruction more than the longest code, and 1,600 recalls. A script longer than its buffer would lose its
+// last cases, and what is written would lack them.
 fn main() {
-    compiling();
-    running();
-}
-
-fn compiling() {
-    recipes::accepted();
-    limits::most_nodes();
-    limits::table_sizes();
-    refusals::kinds();
-    refusals::unused_bytes();
-    refusals::operands();
-    refusals::uses();
-    refusals::order();
-    recipes::no_room();
-}
-
-fn running() {
-    rehearsed::shared_codes();
-    rehearsed::other_codes();
-    foreign::long_codes();
-    foreign::pop();
-    foreign::stack_sizes();
-    step_limit::order();
-    refused_codes::statuses_and_sizes();
-    refused_codes::opcodes_and_fields();
-    refused_codes::targets();
-    refused_codes::order_of_arguments();
-    refused_codes::order_of_instructions();
+    let mut text = io::large_buffer();
+    let read = io::read_full(libc::STDIN_FILENO, &mut text);
+    let mut bytes = [0; 8192];
+    let mut recalls = [0; 200];
+    script::carry_out(&text[..read], &mut bytes, &mut recalls);
 }

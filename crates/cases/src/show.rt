@@ -1,50 +1,49 @@
 // What is written of an answer, on standard output.
 
 use libc::STDOUT_FILENO;
-use rules::Answer;
 use rules::End;
 use rules::Outcome;
 use rules::Reason;
-use rules::Refusal;
 
 pub(crate) fn text(bytes: &[u8]) {
     io::write_all(STDOUT_FILENO, bytes);
 }
 
-pub(crate) fn count(n: usize) {
-    io::print_decimal(STDOUT_FILENO, n as u64);
-}
-
-// What a run came to, and both totals.
-pub(crate) fn answer(answer: Answer) {
-    let end = answer.outcome;
-    outcome(end);
-    text(b" steps ");
-    count(answer.steps);
-    text(b" reached ");
-    count(answer.reached);
+pub(crate) fn count(n: u64) {
+    io::print_decimal(STDOUT_FILENO, n);
 }
 
 // An end, or a refusal in place of it.
 pub(crate) fn outcome(outcome: Outcome) {
     match outcome {
         Outcome::Ended(end) => match end {
-            End::Number(n) => {
-                text(b"number ");
-                number(n);
-            }
+            End::Number(n) => number(n),
             End::Throw => text(b"throw"),
         },
-        Outcome::Refused(r) => refusal(r),
+        Outcome::Refused(refusal) => {
+            let reason = refusal.reason;
+            refused(refusal_number(reason), refusal.place as u64);
+        }
     }
 }
 
-pub(crate) fn refusal(refusal: Refusal) {
-    let reason = refusal.reason;
+pub(crate) fn refused(refusal: u64, place: u64) {
     text(b"refused ");
-    count(refusal_number(reason));
+    count(refusal);
     text(b" at ");
-    count(refusal.place);
+    count(place);
+}
+
+// A lane count, by its 32 bits: from 2^31 on they stand for 2^32 less (document 01, "What a recipe may end in").
+pub(crate) fn number(n: i32) {
+    text(b"number ");
+    let bits = record::number::residue(n) as u64;
+    if bits < 2147483648 {
+        count(bits);
+    } else {
+        text(b"-");
+        count(4294967296 - bits);
+    }
 }
 
 // Bytes of code, one line an instruction.
@@ -59,29 +58,17 @@ pub(crate) fn code(bytes: &[u8]) {
 // One of the eight bytes of an instruction.
 fn code_byte(byte: u8, place: usize) {
     if place == 0 {
-        text(b"  ");
-    } else {
         text(b" ");
     }
+    text(b" ");
     io::print_hex(STDOUT_FILENO, byte as u64, 2);
     if place == 7 {
         text(b"\n");
     }
 }
 
-// A lane count, by its 32 bits: from 2^31 on they stand for 2^32 less (document 01, "What a recipe may end in").
-fn number(n: i32) {
-    let bits = record::number::residue(n) as usize;
-    if bits < 2147483648 {
-        count(bits);
-    } else {
-        text(b"-");
-        count(4294967296 - bits);
-    }
-}
-
 // Document 01, "Refusal numbers".
-fn refusal_number(reason: Reason) -> usize {
+fn refusal_number(reason: Reason) -> u64 {
     match reason {
         Reason::TableSize => 1,
         Reason::Kind => 2,
