@@ -21,33 +21,25 @@ use mathlib.Core.Bool.{true}
 use mathlib.Core.List.{List}
 use mathlib.Core.Option.{none, some}
 use mathlib.Core.Path.{_≡_, refl, ap, sym, _∙_}
-use Rattle.rules.specs.Bytes.{byteAt}
+use Rattle.rules.specs.Bytes.{byteAt, rowNumbered}
 use Rattle.rules.specs.CodeBytes.{OpcodeRow, opcodes, opcodeNumbered, opcodeAt, operandAt, instructionAt, targetFits}
 use Rattle.rules.specs.CodeBytes.Form.{Target}
 use Rattle.rules.specs.declared.Instruction.the-variants.{Throw}
-use Rattle.rules.proofs.Lookup.{found-below, missing-past}
+use Rattle.rules.proofs.Lookup.{RowKnown, row-known, row-unknown}
 use Rattle.machine.specs.Reading.{operandFitsAt, targetFitsAt}
 
 -- ---- opcodes
 
-pub record Known (opcode : ℕ) : Type 0 where
-  pub row : OpcodeRow
-  pub found : opcodeNumbered opcode ≡ some row
+abbrev pub Known : ℕ → Type 0
+Known opcode = RowKnown opcodes opcode
 
 pub opcode-known : (opcode : ℕ) → 1 ≤ opcode → opcode ≤ 8 → Known opcode
-unfolding opcodes opcodeNumbered
-opcode-known zero l h = absurd (omega arith)
-opcode-known (suc opcode) l h =
-    let here = found-below opcodes opcode (omega arith) in
-    record { row = here .here; found = here .found }
+unfolding opcodes
+opcode-known opcode l h = row-known opcodes opcode l h
 
 pub opcode-unknown : (opcode : ℕ) → (1 ≤ opcode → opcode ≤ 8 → ⊥) → opcodeNumbered opcode ≡ none
-unfolding opcodes opcodeNumbered
-opcode-unknown zero h = refl
-opcode-unknown (suc opcode) h = elim (decLt opcode 8) [
-  | yes below ↦ absurd (h (omega arith) (omega arith))
-  | no past ↦ missing-past opcodes opcode (omega arith)
-]
+unfolding opcodes
+opcode-unknown opcode outside = row-unknown opcodes opcode outside
 
 low : (opcode : ℕ) → 1 ≤ opcode → opcode < 5 → (opcode ≡ 1 → ⊥) → (opcode ≡ 2 → ⊥) → (opcode ≡ 3 → ⊥) → (opcode ≡ 4 → ⊥) → ⊥
 low opcode l h push throw add pop = omega arith
@@ -97,7 +89,7 @@ module _ (word a n : ℕ) where
   target-low h = rw (le-ltb a word h)
 
   pub target-other : (opcode : ℕ) → (opcode ≡ 5 → ⊥) → (opcode ≡ 6 → ⊥) → targetFitsAt opcode word a n ≡ true
-  unfolding opcodes opcodeNumbered targetFits targetFitsAt
+  unfolding opcodes rowNumbered targetFits targetFitsAt
   target-other zero mark unmark = refl
   target-other (suc zero) mark unmark = refl
   target-other (suc (suc zero)) mark unmark = refl

@@ -18,7 +18,7 @@ use mathlib.Core.Bool.{true, _&&_, and-eq-true-iff}
 use mathlib.Core.List.{List, [], _∷_}
 use mathlib.Core.Option.{Option, none, some}
 use mathlib.Core.Path.{_≡_, refl}
-use Rattle.rules.specs.Bytes.{byteAt, records}
+use Rattle.rules.specs.Bytes.{byteAt, records, rowNumbered}
 use Rattle.rules.specs.CodeBytes.{OpcodeRow, opcodes, opcodeNumbered, opcodeAt, operandAt, instructionAt, instructions}
 use Rattle.rules.specs.CodeBytes.{targetFits, instructionTest, codeTests}
 use Rattle.rules.specs.Limits.{recordBytes, itemLimit}
@@ -164,7 +164,7 @@ target-low : (word a n : ℕ) → ltb a word && leb word n ≡ true → word ≤
 target-low word a n fits = leb-true word n (and-eq-true-iff (ltb a word) (leb word n) .0 fits .1)
 
 rows : (word a n opcode : ℕ) → Row word a n (opcodeNumbered opcode)
-unfolding opcodes opcodeNumbered targetFits
+unfolding opcodes rowNumbered targetFits
 rows word a n zero = tt
 rows word a n (suc zero) = λ fits. tt
 rows word a n (suc (suc zero)) = λ fits. tt

@@ -16,7 +16,7 @@ use lib.ListN.{length}
 use mathlib.Core.List.{List}
 use mathlib.Core.Option.{Option, none, some}
 use mathlib.Core.Path.{_≡_, refl, ap}
-use Rattle.rules.specs.Bytes.{byteAt}
+use Rattle.rules.specs.Bytes.{byteAt, rowNumbered}
 use Rattle.rules.specs.Code.{codeLength, compile}
 use Rattle.rules.specs.CodeBytes.{bytesOf, instructions, codeTests}
 use Rattle.rules.specs.Expression.{Expression, Val, Throw, Add, Seqn, Catch, Block, Unblock}
@@ -28,7 +28,7 @@ use Rattle.rules.specs.Table.{KindRow, kinds, kindNumbered, kindAt, node
 use Rattle.rules.specs.declared.Instruction.the-variants.{Mark, Unmark}
 use Rattle.rules.specs.declared.Node.{Node}
 use Rattle.rules.specs.declared.Status.the-variants.{Blocked, Unblocked}
-use Rattle.rules.proofs.Holding.{length-compile}
+use Rattle.rules.proofs.Holding.{codeLength-pos, length-compile}
 use Rattle.rules.proofs.WrittenCode.{LaneCount, Writable, push, throw, add, pop, mark, unmark, set, reset}
 use Rattle.rules.proofs.WrittenCode.{AllWritable, done, _▸_, writable-append, instructions-bytesOf, bytesOf-passes}
 
@@ -82,7 +82,7 @@ Row none = Unit
 Row (some row) = (word left right : ℕ) → NodeInRange (row .node (signed word) left right)
 
 rows : (kind : ℕ) → Row (kindNumbered kind)
-unfolding kinds kindNumbered
+unfolding kinds rowNumbered
 rows zero = tt
 rows (suc zero) = λ word left right. signed-lane-count word
 rows (suc (suc zero)) = λ word left right. tt
@@ -120,16 +120,6 @@ module _ (table : List ℕ) where
   recipe-in-range = within-in-range _ _
 
 -- ---- compiled code
-
-codeLength-pos : (e : Expression) → 1 ≤ codeLength e
-unfolding codeLength
-codeLength-pos (Val n) = omega arith
-codeLength-pos Throw = omega arith
-codeLength-pos (Add x y) = omega arith
-codeLength-pos (Seqn x y) = omega arith
-codeLength-pos (Catch x y) = omega arith
-codeLength-pos (Block x) = omega arith
-codeLength-pos (Unblock x) = omega arith
 
 compile-writable : {n : ℕ} (a : ℕ) (e : Expression) → InRange e → a + codeLength e ≤ n → AllWritable n a (compile a e)
 unfolding codeLength compile

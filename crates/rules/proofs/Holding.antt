@@ -1,6 +1,7 @@
 -- Where an expression's instructions stand in a code.
 --
 --   nodes-pos          an expression has a node
+--   codeLength-pos     and its code an instruction
 --   length-compile     the length of its code is document 01's column, summed over the nodes
 --   codeLength-nodes   "at most 2n - 1"
 --   Holds code a e b   the code holds e's instructions from address a up to b
@@ -33,6 +34,16 @@ nodes-pos (Seqn x y) = omega arith
 nodes-pos (Catch x y) = omega arith
 nodes-pos (Block x) = omega arith
 nodes-pos (Unblock x) = omega arith
+
+pub codeLength-pos : (e : Expression) → 1 ≤ codeLength e
+unfolding codeLength
+codeLength-pos (Val n) = omega arith
+codeLength-pos Throw = omega arith
+codeLength-pos (Add x y) = omega arith
+codeLength-pos (Seqn x y) = omega arith
+codeLength-pos (Catch x y) = omega arith
+codeLength-pos (Block x) = omega arith
+codeLength-pos (Unblock x) = omega arith
 
 pub length-compile : (a : ℕ) (e : Expression) → length (compile a e) ≡ codeLength e
 unfolding codeLength compile

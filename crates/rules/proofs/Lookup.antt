@@ -4,14 +4,18 @@
 --   found-below    below the length something stands
 --   missing-past   from the length on nothing does
 --   found-seam     where two lists meet
+--   RowKnown, row-known, row-unknown
+--                  rows numbered from 1: there is one of each number up to their length, and none of any other
 --
 -- Assumes nothing.
 use Prim.Native.Nat.{ℕ, zero, suc, _≤_, _<_}
+use native.Mathlib.Decide.{decLt}
 use native.Mathlib.Omega.{arith}
 use lib.ListN.{length, getElem?}
 use mathlib.Core.List.{List, [], _∷_, _++_}
 use mathlib.Core.Option.{none, some}
 use mathlib.Core.Path.{_≡_, refl}
+use Rattle.rules.specs.Bytes.{rowNumbered}
 
 module _ {A : Type 0} where
   pub record Found (l : List A) (k : ℕ) : Type 0 where
@@ -31,3 +35,22 @@ module _ {A : Type 0} where
   pub found-seam : (front : List A) (x : A) (back : List A) → getElem? (front ++ x ∷ back) (length front) ≡ some x
   found-seam [] x back = refl
   found-seam (y ∷ front) x back = found-seam front x back
+
+  -- ---- rows
+
+  pub record RowKnown (rows : List A) (k : ℕ) : Type 0 where
+    pub row : A
+    pub found : rowNumbered rows k ≡ some row
+
+  pub row-known : (rows : List A) (k : ℕ) → 1 ≤ k → k ≤ length rows → RowKnown rows k
+  unfolding rowNumbered
+  row-known rows zero l h = absurd (omega arith)
+  row-known rows (suc k) l h = let here = found-below rows k (omega arith) in record { row = here .here; found = here .found }
+
+  pub row-unknown : (rows : List A) (k : ℕ) → (1 ≤ k → k ≤ length rows → ⊥) → rowNumbered rows k ≡ none
+  unfolding rowNumbered
+  row-unknown rows zero outside = refl
+  row-unknown rows (suc k) outside = elim (decLt k (length rows)) [
+    | yes below ↦ absurd (outside (omega arith) (omega arith))
+    | no past ↦ missing-past rows k (omega arith)
+  ]

@@ -9,7 +9,7 @@
 --   rows-none                       nor does its front
 --   lowest-next, lowest-found       one test at each place upward: a place passed, a place refused
 --   lowest-same                     two tests that agree at each place
---   lowest-none                     where it refuses nothing, no place is refused
+--   lowest-none, lowest-all         where it refuses nothing, no place is refused, and the other way round
 --   checked-accepted, checked-refused
 --                                   what a checker's answer says of the first refusal
 --
@@ -110,6 +110,11 @@ module _ (test : ℕ → Option Refusal) where
         | yes lower ↦ lowest-none n j lower before
         | no not-lower ↦ let last : j ≡ n = omega arith in rw last (cc (lowest-suc n before))
       ]
+
+  pub lowest-all : (n : ℕ) → ((j : ℕ) → j < n → test j ≡ none) → lowestRefusal test n ≡ none
+  unfolding lowestRefusal
+  lowest-all zero each = refl
+  lowest-all (suc n) each = lowest-suc n (lowest-all n λ j low. each j (omega arith)) ∙ each n (omega arith)
 
 module _ (test other : ℕ → Option Refusal) where
   same-next : (n : ℕ) (o : Option Refusal) → lowestRefusal other n ≡ o → lowestRefusal test n ≡ o → test n ≡ other n

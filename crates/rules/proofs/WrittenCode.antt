@@ -10,7 +10,6 @@
 --
 -- Assumes nothing.
 use Prim.Native.Nat.{ℕ, zero, suc, _+_, _*_, _^_, _≤_, _<_}
-use native.Mathlib.Numerals.{add-one}
 use native.Mathlib.Omega.{arith}
 use borrow.Author.Tests.{lt-ltb, le-leb}
 use lib.Dec.{ltb, leb}
@@ -22,12 +21,12 @@ use mathlib.Core.List.{List, [], _∷_, _++_}
 use mathlib.Core.Option.{Option, none, some}
 use mathlib.Core.Path.{_≡_, refl, sym, ap, _∙_}
 use Rattle.rules.specs.Answers.{statusNumber, statusNumbered}
-use Rattle.rules.specs.Bytes.{byteAt, halfAt, wordAt, wordBytes, allZero, records, wholeRecords}
-use Rattle.rules.specs.CodeBytes.{instructionRecord, instructionBytes, bytesOf, OpcodeRow, opcodes, opcodeNumbered, opcodeAt, operandAt}
+use Rattle.rules.specs.Bytes.{byteAt, halfAt, wordAt, wordBytes, allZero, records, wholeRecords, rowNumbered}
+use Rattle.rules.specs.CodeBytes.{instructionRecord, instructionBytes, bytesOf, OpcodeRow, opcodes, opcodeAt, operandAt}
 use Rattle.rules.specs.CodeBytes.{instructionAt, instructionsBelow, instructions, operandFits, targetFits, instructionTest, codeTests}
 use Rattle.rules.specs.Limits.{instructionLimit, codeLimit}
 use Rattle.rules.specs.Number.{residue, signed}
-use Rattle.rules.specs.Refusals.{unless, firstRefusal, lowestRefusal}
+use Rattle.rules.specs.Refusals.{unless, firstRefusal}
 use Rattle.rules.specs.declared.Instruction.{Instruction}
 use Rattle.rules.specs.declared.Instruction.the-variants.{Push, Throw, Add, Pop, Mark, Unmark, Set, Reset}
 use Rattle.rules.specs.declared.Status.{Status}
@@ -35,7 +34,7 @@ use Rattle.rules.specs.declared.Status.the-variants.{Blocked, Unblocked}
 use Rattle.rules.proofs.CodeBytes.{length-instructionBytes, length-bytesOf}
 use Rattle.rules.proofs.Records.{word-whole}
 use Rattle.rules.proofs.Sizes.{whole}
-use Rattle.rules.proofs.Tests.{lowest-next}
+use Rattle.rules.proofs.Tests.{lowest-all}
 
 -- ---- what records can say
 
@@ -96,7 +95,7 @@ target-fits : {n a t : ℕ} → a < t → t ≤ n → ltb a t && leb t n ≡ tru
 target-fits {n} {a} {t} above within = rw (lt-ltb a t above, le-leb t n within)
 
 says : {n a : ℕ} {x : Instruction} → n ≤ instructionLimit → Writable n a x → Says n a x (opcodeAt (instructionBytes x) 0)
-unfolding wordAt halfAt wordBytes allZero instructionBytes instructionRecord opcodes opcodeNumbered opcodeAt operandFits targetFits statusNumber statusNumbered
+unfolding wordAt halfAt wordBytes allZero instructionBytes instructionRecord opcodes rowNumbered opcodeAt operandFits targetFits statusNumber statusNumbered
 says short (push {k} lane) = rw (operand-whole 1 (residue k) (residue-small k)) (ap Push lane, refl, refl)
 says short throw = (refl, refl, refl)
 says short add = (refl, refl, refl)
@@ -165,11 +164,6 @@ module _ (xs : List Instruction) (short : length xs ≤ instructionLimit) (all :
   read-below zero h = refl
   read-below (suc n) h = rw (read-below n (omega arith), read-back n h .0) (sym (take-suc xs n Throw h))
 
-  passes-below : (n : ℕ) → n ≤ length xs → lowestRefusal (instructionTest (bytesOf xs)) n ≡ none
-  unfolding lowestRefusal
-  passes-below zero h = refl
-  passes-below (suc n) h = rw add-one at (lowest-next (instructionTest (bytesOf xs)) n (passes-below n (omega arith)) (read-back n h .1))
-
   pub instructions-bytesOf : instructions (bytesOf xs) ≡ xs
   unfolding instructions
   instructions-bytesOf = rw (records-bytesOf xs) (read-below (length xs) (omega arith) ∙ take-length xs)
@@ -179,4 +173,4 @@ module _ (xs : List Instruction) (short : length xs ≤ instructionLimit) (all :
   bytesOf-passes long =
       let bytes : length (bytesOf xs) ≡ 8 * length xs = length-bytesOf xs in
       let size : wholeRecords codeLimit (bytesOf xs) ≡ true = whole codeLimit (bytesOf xs) (omega arith) (omega arith) (omega arith) in
-      rw (size, records-bytesOf xs, passes-below (length xs) (omega arith))
+      rw (size, records-bytesOf xs, lowest-all (instructionTest (bytesOf xs)) (length xs) λ a inside. read-back a inside .1)

@@ -4,14 +4,16 @@
 --   wordBytes                the four bytes of a word
 --   allZero                  the bytes of a record at these offsets are zero
 --   records                  how many records there are
+--   rowNumbered              the row that a record's first byte names, in a list of rows that are numbered from 1
 --   wholeRecords             the bytes are not 0, not above a size, and a multiple of 8 (tests 1 and 9)
 --
 -- Assumes nothing.
-use Prim.Native.Nat.{ℕ, _+_, _*_, _/_, _%_}
+use Prim.Native.Nat.{ℕ, zero, suc, _+_, _*_, _/_, _%_}
 use lib.Dec.{leb, ltb, eqb}
-use lib.ListN.{length, getD}
+use lib.ListN.{length, getD, getElem?}
 use mathlib.Core.Bool.{Bool, true, _&&_}
 use mathlib.Core.List.{List, [], _∷_}
+use mathlib.Core.Option.{Option, none}
 use Rattle.rules.specs.Limits.{recordBytes}
 
 abbrev pub byteAt : List ℕ → ℕ → ℕ
@@ -32,6 +34,10 @@ allZero bytes base (offset ∷ offsets) = eqb (byteAt bytes (base + offset)) 0 &
 
 abbrev pub records : List ℕ → ℕ
 records bytes = length bytes / recordBytes
+
+unfoldable pub rowNumbered : {A : Type 0} → List A → ℕ → Option A
+rowNumbered rows zero = none
+rowNumbered rows (suc k) = getElem? rows k
 
 unfoldable pub wholeRecords : ℕ → List ℕ → Bool
 wholeRecords most bytes = ltb 0 (length bytes) && leb (length bytes) most && eqb (length bytes % recordBytes) 0

@@ -12,12 +12,11 @@
 -- Assumes nothing.
 use Prim.Native.Nat.{ℕ, zero, suc, _+_, _*_}
 use lib.Dec.{ltb, leb, eqb}
-use lib.ListN.{getElem?}
 use mathlib.Core.Bool.{Bool, true, _&&_}
 use mathlib.Core.List.{List, [], _∷_, _++_}
 use mathlib.Core.Option.{Option, none, some}
 use Rattle.rules.specs.Answers.{statusNumber, statusNumbered}
-use Rattle.rules.specs.Bytes.{byteAt, wordAt, wordBytes, allZero, records, wholeRecords}
+use Rattle.rules.specs.Bytes.{byteAt, wordAt, wordBytes, allZero, records, rowNumbered, wholeRecords}
 use Rattle.rules.specs.Limits.{recordBytes, codeLimit}
 use Rattle.rules.specs.Number.{residue, signed}
 use Rattle.rules.specs.Refusals.{unless, firstRefusal, lowestRefusal}
@@ -72,9 +71,8 @@ opcodes =
     ∷ opcode Absent (λ word. Reset)
     ∷ []
 
-unfoldable pub opcodeNumbered : ℕ → Option OpcodeRow
-opcodeNumbered zero = none
-opcodeNumbered (suc k) = getElem? opcodes k
+abbrev pub opcodeNumbered : ℕ → Option OpcodeRow
+opcodeNumbered k = rowNumbered opcodes k
 
 unfoldable pub opcodeAt : List ℕ → ℕ → Option OpcodeRow
 opcodeAt code a = opcodeNumbered (byteAt code (recordBytes * a))

@@ -12,11 +12,10 @@
 use Prim.Native.Nat.{ℕ, zero, suc, _+_, _-_, _*_}
 use lib.IntN.{ℤ}
 use lib.Dec.{ltb, eqb}
-use lib.ListN.{getElem?}
 use mathlib.Core.Bool.{Bool, true, cond, _&&_}
 use mathlib.Core.List.{List, [], _∷_}
 use mathlib.Core.Option.{Option, none, some}
-use Rattle.rules.specs.Bytes.{byteAt, halfAt, wordAt, allZero, records, wholeRecords}
+use Rattle.rules.specs.Bytes.{byteAt, halfAt, wordAt, allZero, records, rowNumbered, wholeRecords}
 use Rattle.rules.specs.Limits.{recordBytes, tableLimit}
 use Rattle.rules.specs.Number.{signed}
 use Rattle.rules.specs.Refusals.{unless, firstRefusal, lowestRefusal}
@@ -49,9 +48,8 @@ kinds =
     ∷ kind (λ n left right. Unblock left) (1 ∷ 4 ∷ 5 ∷ 6 ∷ 7 ∷ [])
     ∷ []
 
-unfoldable pub kindNumbered : ℕ → Option KindRow
-kindNumbered zero = none
-kindNumbered (suc k) = getElem? kinds k
+abbrev pub kindNumbered : ℕ → Option KindRow
+kindNumbered k = rowNumbered kinds k
 
 unfoldable pub kindAt : List ℕ → ℕ → Option KindRow
 kindAt table j = kindNumbered (byteAt table (recordBytes * j))

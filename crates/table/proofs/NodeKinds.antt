@@ -8,35 +8,29 @@
 --   node-of-no-kind     and where it has none
 --
 -- Assumes nothing.
-use Prim.Native.Nat.{ℕ, zero, suc, _*_, _≤_, _<_}
+use Prim.Native.Nat.{ℕ, _*_, _≤_, _<_}
 use native.Mathlib.Decide.{decLt}
 use native.Mathlib.Omega.{arith}
 use mathlib.Core.List.{List}
 use mathlib.Core.Option.{none, some}
-use mathlib.Core.Path.{_≡_, refl, ap, sym, _∙_}
+use mathlib.Core.Path.{_≡_, ap, sym, _∙_}
 use Rattle.rules.specs.Bytes.{byteAt}
 use Rattle.rules.specs.Table.{KindRow, kinds, kindNumbered, kindAt, nodeOf, nodeAt}
 use Rattle.rules.specs.declared.Node.the-variants.{Throw}
-use Rattle.rules.proofs.Lookup.{found-below, missing-past}
+use Rattle.rules.proofs.Lookup.{RowKnown, row-known, row-unknown}
 
 -- ---- kinds
 
-pub record Known (kind : ℕ) : Type 0 where
-  pub row : KindRow
-  pub found : kindNumbered kind ≡ some row
+abbrev pub Known : ℕ → Type 0
+Known kind = RowKnown kinds kind
 
 pub kind-known : (kind : ℕ) → 1 ≤ kind → kind ≤ 7 → Known kind
-unfolding kinds kindNumbered
-kind-known zero l h = absurd (omega arith)
-kind-known (suc kind) l h = let here = found-below kinds kind (omega arith) in record { row = here .here; found = here .found }
+unfolding kinds
+kind-known kind l h = row-known kinds kind l h
 
 pub kind-unknown : (kind : ℕ) → (1 ≤ kind → kind ≤ 7 → ⊥) → kindNumbered kind ≡ none
-unfolding kinds kindNumbered
-kind-unknown zero h = refl
-kind-unknown (suc kind) h = elim (decLt kind 7) [
-  | yes below ↦ absurd (h (omega arith) (omega arith))
-  | no past ↦ missing-past kinds kind (omega arith)
-]
+unfolding kinds
+kind-unknown kind outside = row-unknown kinds kind outside
 
 low : (kind : ℕ) → 1 ≤ kind → kind < 4 → (kind ≡ 1 → ⊥) → (kind ≡ 2 → ⊥) → (kind ≡ 3 → ⊥) → ⊥
 low kind l h val throw add = omega arith

@@ -7,6 +7,7 @@ use mathlib.Core.Path.{_≡_, refl, sym, _∙_}
 use mir.Syntax.{w32}
 use mir.Val.{SFits}
 use mir.Facts.{toZ-ofZ}
+use Rattle.rules.specs.Bytes.{rowNumbered}
 use Rattle.rules.specs.CodeBytes.{OpcodeRow, opcodes, opcodeNumbered, instructionAt}
 use Rattle.machine.specs.Reading.{targetOf}
 use Rattle.machine.proofs.Opcodes.{opcode-at, opcode-other, instruction-of-opcode, instruction-of-no-opcode}
@@ -45,37 +46,37 @@ numbered-requires : tie.Need-numbered-requires
 numbered-requires c κs = search needs
 
 returns : tie.Need-returns
-unfolding opcodes opcodeNumbered targetOf
+unfolding opcodes rowNumbered targetOf
 returns c =
     let fits : SFits w32 (c .signed .result) = record { sfits = c .signed .ok } in
     (rw (toZ-ofZ fits, c .signed .ensures) (coded (c .before .before) (c .before .match .keys1) refl), omega arith)
 
 returns-2 : tie.Need-returns-2
-unfolding opcodes opcodeNumbered targetOf
+unfolding opcodes rowNumbered targetOf
 returns-2 c = (coded (c .before) (c .match .keys2) refl, omega arith)
 
 returns-3 : tie.Need-returns-3
-unfolding opcodes opcodeNumbered targetOf
+unfolding opcodes rowNumbered targetOf
 returns-3 c = (coded (c .before) (c .match .keys3) refl, omega arith)
 
 returns-4 : tie.Need-returns-4
-unfolding opcodes opcodeNumbered targetOf
+unfolding opcodes rowNumbered targetOf
 returns-4 c = (coded (c .before) (c .match .keys4) refl, omega arith)
 
 returns-5 : tie.Need-returns-5
-unfolding opcodes opcodeNumbered targetOf
+unfolding opcodes rowNumbered targetOf
 returns-5 c = (coded (c .before) (c .match .keys5) refl, omega (arith, c .before .before .word .ok))
 
 returns-6 : tie.Need-returns-6
-unfolding opcodes opcodeNumbered targetOf
+unfolding opcodes rowNumbered targetOf
 returns-6 c = (coded (c .before) (c .match .keys6) refl, omega (arith, c .before .before .word .ok))
 
 returns-7 : tie.Need-returns-7
-unfolding opcodes opcodeNumbered targetOf
+unfolding opcodes rowNumbered targetOf
 returns-7 c = (rw (c .numbered .ensures) (coded (c .before .before) (c .before .match .keys7) refl), omega arith)
 
 returns-8 : tie.Need-returns-8
-unfolding opcodes opcodeNumbered targetOf
+unfolding opcodes rowNumbered targetOf
 returns-8 c = (coded (c .before) (c .match .keys8) refl, omega arith)
 
 returns-9 : tie.Need-returns-9

@@ -1,41 +1,42 @@
 -- `machine::instruction::operand_fits` meets its contract, opcode by opcode. Assumes nothing.
 use mathlib.Core.Path.{sym}
-use Rattle.rules.specs.CodeBytes.{opcodes, opcodeNumbered, operandFits}
+use Rattle.rules.specs.Bytes.{rowNumbered}
+use Rattle.rules.specs.CodeBytes.{opcodes, operandFits}
 use Rattle.machine.specs.Reading.{operandFitsAt}
 use Rattle.machine.proofs.Opcodes.{opcode-other, operand-other}
 use Rattle.machine.proofs.instruction.operand_fits.Statement.{statement}
 use Rattle.machine.proofs.instruction.operand_fits.Tie as tie
 
 returns : tie.Need-returns
-unfolding opcodes opcodeNumbered operandFits operandFitsAt
+unfolding opcodes rowNumbered operandFits operandFitsAt
 returns c = rw (c .match .keys1)
 
 returns-2 : tie.Need-returns-2
-unfolding opcodes opcodeNumbered operandFits operandFitsAt
+unfolding opcodes rowNumbered operandFits operandFitsAt
 returns-2 c = rw (c .match .keys2)
 
 returns-3 : tie.Need-returns-3
-unfolding opcodes opcodeNumbered operandFits operandFitsAt
+unfolding opcodes rowNumbered operandFits operandFitsAt
 returns-3 c = rw (c .match .keys3)
 
 returns-4 : tie.Need-returns-4
-unfolding opcodes opcodeNumbered operandFits operandFitsAt
+unfolding opcodes rowNumbered operandFits operandFitsAt
 returns-4 c = rw (c .match .keys4)
 
 returns-5 : tie.Need-returns-5
-unfolding opcodes opcodeNumbered operandFits operandFitsAt
+unfolding opcodes rowNumbered operandFits operandFitsAt
 returns-5 c = rw (c .match .keys5)
 
 returns-6 : tie.Need-returns-6
-unfolding opcodes opcodeNumbered operandFits operandFitsAt
+unfolding opcodes rowNumbered operandFits operandFitsAt
 returns-6 c = rw (c .match .keys6)
 
 returns-7 : tie.Need-returns-7
-unfolding opcodes opcodeNumbered operandFits operandFitsAt
+unfolding opcodes rowNumbered operandFits operandFitsAt
 returns-7 c = rw (c .match .keys7)
 
 returns-8 : tie.Need-returns-8
-unfolding opcodes opcodeNumbered operandFits operandFitsAt
+unfolding opcodes rowNumbered operandFits operandFitsAt
 returns-8 c = rw (c .match .keys8)
 
 returns-9 : tie.Need-returns-9

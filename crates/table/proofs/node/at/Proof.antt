@@ -6,6 +6,7 @@ use mathlib.Core.Path.{_≡_, refl, sym, _∙_}
 use mir.Syntax.{w32}
 use mir.Val.{SFits}
 use mir.Facts.{toZ-ofZ}
+use Rattle.rules.specs.Bytes.{rowNumbered}
 use Rattle.rules.specs.Table.{KindRow, kinds, kindNumbered, nodeOf, nodeAt}
 use Rattle.table.proofs.NodeKinds.{kind-at, kind-other, node-of-kind, node-of-no-kind}
 use Rattle.table.proofs.node.at.Statement.{statement}
@@ -45,33 +46,33 @@ signed-requires : tie.Need-signed-requires
 signed-requires c κs = search needs
 
 returns : tie.Need-returns
-unfolding kinds kindNumbered nodeOf
+unfolding kinds rowNumbered nodeOf
 returns c =
     let fits : SFits w32 (c .signed .result) = record { sfits = c .signed .ok } in
     rw (toZ-ofZ fits, c .signed .ensures, c .before .word .ensures) (kinded (c .before .before .before) (c .before .before .match .keys1) refl)
 
 returns-2 : tie.Need-returns-2
-unfolding kinds kindNumbered nodeOf
+unfolding kinds rowNumbered nodeOf
 returns-2 c = kinded (c .before) (c .match .keys2) refl
 
 returns-3 : tie.Need-returns-3
-unfolding kinds kindNumbered nodeOf
+unfolding kinds rowNumbered nodeOf
 returns-3 c = rw (c .before .before .before .half .ensures .0, c .before .before .half2 .ensures .0) (kinded (c .before) (c .match .keys3) refl)
 
 returns-4 : tie.Need-returns-4
-unfolding kinds kindNumbered nodeOf
+unfolding kinds rowNumbered nodeOf
 returns-4 c = rw (c .before .before .before .half .ensures .0, c .before .before .half2 .ensures .0) (kinded (c .before) (c .match .keys4) refl)
 
 returns-5 : tie.Need-returns-5
-unfolding kinds kindNumbered nodeOf
+unfolding kinds rowNumbered nodeOf
 returns-5 c = rw (c .before .before .before .half .ensures .0, c .before .before .half2 .ensures .0) (kinded (c .before) (c .match .keys5) refl)
 
 returns-6 : tie.Need-returns-6
-unfolding kinds kindNumbered nodeOf
+unfolding kinds rowNumbered nodeOf
 returns-6 c = rw (c .before .before .before .half .ensures .0) (kinded (c .before) (c .match .keys6) refl)
 
 returns-7 : tie.Need-returns-7
-unfolding kinds kindNumbered nodeOf
+unfolding kinds rowNumbered nodeOf
 returns-7 c = rw (c .before .before .before .half .ensures .0) (kinded (c .before) (c .match .keys7) refl)
 
 returns-8 : tie.Need-returns-8

@@ -1,7 +1,8 @@
 -- `table::node::unused` meets its contract, kind by kind. Assumes nothing.
 use borrow.Author.Needs.{needs}
 use mathlib.Core.Path.{sym}
-use Rattle.rules.specs.Table.{kinds, kindNumbered}
+use Rattle.rules.specs.Bytes.{rowNumbered}
+use Rattle.rules.specs.Table.{kinds}
 use Rattle.table.specs.Checking.{unusedZero}
 use Rattle.table.proofs.NodeKinds.{kind-other}
 use Rattle.table.proofs.UnusedBytes.{unused-val, unused-throw, unused-pair, unused-scope, unused-none}
@@ -66,49 +67,49 @@ add-result-11 : tie.Need-add-result-11
 add-result-11 c = search needs
 
 returns : tie.Need-returns
-unfolding kinds kindNumbered unusedZero
+unfolding kinds rowNumbered unusedZero
 returns c =
     let s = c .before .before .before .before .before .before .args in
     rw (c .before .before .before .before .byte .ensures .0, c .before .before .before .half .ensures .0, c .match .keys1)
     (unused-val (s .table .now) (s .base))
 
 returns-2 : tie.Need-returns-2
-unfolding kinds kindNumbered unusedZero
+unfolding kinds rowNumbered unusedZero
 returns-2 c =
     let s = c .before .before .before .before .before .before .args in
     rw (c .before .before .before .before .byte .ensures .0, c .before .before .before .half .ensures .0, c .before .before .half2 .ensures .0, c .before .half3 .ensures .0, c .match .keys2)
     (unused-throw (s .table .now) (s .base))
 
 returns-3 : tie.Need-returns-3
-unfolding kinds kindNumbered unusedZero
+unfolding kinds rowNumbered unusedZero
 returns-3 c =
     let s = c .before .before .before .before .before .before .args in
     rw (c .before .before .before .before .byte .ensures .0, c .before .half3 .ensures .0, c .match .keys3)
     (unused-pair (s .table .now) (s .base))
 
 returns-4 : tie.Need-returns-4
-unfolding kinds kindNumbered unusedZero
+unfolding kinds rowNumbered unusedZero
 returns-4 c =
     let s = c .before .before .before .before .before .before .args in
     rw (c .before .before .before .before .byte .ensures .0, c .before .half3 .ensures .0, c .match .keys4)
     (unused-pair (s .table .now) (s .base))
 
 returns-5 : tie.Need-returns-5
-unfolding kinds kindNumbered unusedZero
+unfolding kinds rowNumbered unusedZero
 returns-5 c =
     let s = c .before .before .before .before .before .before .args in
     rw (c .before .before .before .before .byte .ensures .0, c .before .half3 .ensures .0, c .match .keys5)
     (unused-pair (s .table .now) (s .base))
 
 returns-6 : tie.Need-returns-6
-unfolding kinds kindNumbered unusedZero
+unfolding kinds rowNumbered unusedZero
 returns-6 c =
     let s = c .before .before .before .before .before .before .args in
     rw (c .before .before .before .before .byte .ensures .0, c .before .before .half2 .ensures .0, c .before .half3 .ensures .0, c .match .keys6)
     (unused-scope (s .table .now) (s .base))
 
 returns-7 : tie.Need-returns-7
-unfolding kinds kindNumbered unusedZero
+unfolding kinds rowNumbered unusedZero
 returns-7 c =
     let s = c .before .before .before .before .before .before .args in
     rw (c .before .before .before .before .byte .ensures .0, c .before .before .half2 .ensures .0, c .before .half3 .ensures .0, c .match .keys7)
