@@ -24,7 +24,7 @@ use Rattle.rules.specs.declared.Reason.{Reason}
 use Rattle.rules.specs.declared.Reason.the-variants.{TableSize, CodeSize}
 use Rattle.rules.specs.declared.Refusal.{Refusal}
 use Rattle.rules.proofs.Sizes.{whole-means}
-use Rattle.rules.proofs.Tests.{unless-passed, first-only, first-none}
+use Rattle.rules.proofs.Tests.{unless-passed, first-only, first-none, lowest-suc, lowest-kept}
 
 pub data RefusesBelow (n : ℕ) : Option Refusal → Type 0 where
   passes : RefusesBelow n none
@@ -52,17 +52,16 @@ module _ {n : ℕ} where
   two-below test other here there = first-below test (other ∷ []) here λ passed. only-below other there
 
   module _ (test : ℕ → Option Refusal) where
-    lowest-next : (k : ℕ) (below : Option Refusal) → lowestRefusal test k ≡ below → RefusesBelow n below → RefusesBelow n (test k)
+    next-below : (k : ℕ) (below : Option Refusal) → lowestRefusal test k ≡ below → RefusesBelow n below → RefusesBelow n (test k)
         → RefusesBelow n (lowestRefusal test (suc k))
-    unfolding lowestRefusal
-    lowest-next k none e before here = rw (e, lowestRefusal) here
-    lowest-next k (some r) e before here = rw (e, lowestRefusal) before
+    next-below k none e before here = rw (lowest-suc test k e) here
+    next-below k (some r) e before here = rw (lowest-kept test k e) before
 
     lowest-below : (k : ℕ) → ((j : ℕ) → j < k → RefusesBelow n (test j)) → RefusesBelow n (lowestRefusal test k)
     unfolding lowestRefusal
     lowest-below zero each = passes
     lowest-below (suc k) each =
-        lowest-next k (lowestRefusal test k) refl (lowest-below k λ j low. each j (omega arith)) (each k (omega arith))
+        next-below k (lowestRefusal test k) refl (lowest-below k λ j low. each j (omega arith)) (each k (omega arith))
 
 -- ---- a test of a record
 

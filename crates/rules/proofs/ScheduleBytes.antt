@@ -9,11 +9,12 @@
 -- Assumes nothing.
 use Prim.Native.Nat.{ℕ, zero, suc, _+_, _*_, _/_, _%_, _^_, _≤_, _<_}
 use native.Mathlib.Decide.{decLt}
+use native.Mathlib.Nat.{zero-div}
 use native.Mathlib.Omega.{arith}
 use borrow.Author.Tests.{eq-eqb, ne-eqb}
 use lib.Dec.{eqb}
 use lib.ListN.{length, List·getD-eq-default}
-use lib.Pow.{shr-shr, shr-le}
+use lib.Pow.{shr-shr}
 use mathlib.Core.Bool.{Bool, true, false, cond}
 use mathlib.Core.List.{List, [], _∷_}
 use mathlib.Core.Path.{_≡_, refl, sym, _∙_, fun-ext}
@@ -30,9 +31,6 @@ bit b = cond b 1 0
 bit-small : (b : Bool) → bit b < 2
 bit-small true = omega arith
 bit-small false = omega arith
-
-no-bit : (k : ℕ) → 0 / 2 ^ k ≡ 0
-no-bit k = omega (arith, shr-le 0 k)
 
 lowest-bit : (b : Bool) (rest : ℕ) → eqb ((bit b + 2 * rest) / 1 % 2) 1 ≡ b
 lowest-bit true rest = eq-eqb ((1 + 2 * rest) / 1 % 2) 1 (omega arith)
@@ -112,9 +110,9 @@ module _ (placing : Placing) where
         rw (byte-found 0 ((n + 7) / 8) (k / 8) inside) (rw place at (bit-found (0 + 8 * (k / 8)) 8 (k % 8) (omega arith)))
     | no past ↦
         let missing : length (scheduleOf n) ≤ k / 8 = rw (length-scheduleOf n) (omega arith) in
-        rw (List·getD-eq-default (scheduleOf n) 0 missing, no-bit (k % 8)) (sym (quiet k (omega arith)))
+        rw (List·getD-eq-default (scheduleOf n) 0 missing, zero-div (2 ^ (k % 8))) (sym (quiet k (omega arith)))
   ]
 
 pub asks-nothing : asks [] ≡ noRecall
 unfolding asks
-asks-nothing = fun-ext λ k. rw (no-bit (k % 8))
+asks-nothing = fun-ext λ k. rw (zero-div (2 ^ (k % 8)))

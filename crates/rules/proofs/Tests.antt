@@ -7,7 +7,8 @@
 --   rows-passed, rows-refused       a row of tests, by its front
 --   first-none                      where a row refuses nothing, its first refuses nothing, nor do the others
 --   rows-none                       nor does its front
---   lowest-next, lowest-found       one test at each place upward: a place passed, a place refused
+--   lowest-suc, lowest-kept         one test at each place upward: a place more, by what the places below it came to
+--   lowest-next, lowest-found       a place passed, a place refused
 --   lowest-same                     two tests that agree at each place
 --   lowest-none, lowest-all         where it refuses nothing, no place is refused, and the other way round
 --   checked-accepted, checked-refused
@@ -79,11 +80,11 @@ rows-refused (some s ∷ front) back e = e
 -- ---- one test at each place
 
 module _ (test : ℕ → Option Refusal) where
-  lowest-suc : (j : ℕ) → lowestRefusal test j ≡ none → lowestRefusal test (suc j) ≡ test j
+  pub lowest-suc : (j : ℕ) → lowestRefusal test j ≡ none → lowestRefusal test (suc j) ≡ test j
   unfolding lowestRefusal
   lowest-suc j below = rw (below, lowestRefusal)
 
-  lowest-kept : (n : ℕ) {r : Refusal} → lowestRefusal test n ≡ some r → lowestRefusal test (suc n) ≡ some r
+  pub lowest-kept : (n : ℕ) {r : Refusal} → lowestRefusal test n ≡ some r → lowestRefusal test (suc n) ≡ some r
   unfolding lowestRefusal
   lowest-kept n e = rw (e, lowestRefusal)
 
