@@ -1,0 +1,40 @@
+//! A recipe with a closing part, tried with a recall at each of its instructions: before the closing part a recall sends the
+//! folder back to the queue, and in it none bites.
+//!
+//!     make lib && cd rust && cargo run --example closing
+
+use salnegris::{compile, run, Answer, End, Refused, Status, CODE_BYTES, RECORD_BYTES, STACK_BYTES};
+
+/// Seqn (Val 0) (Block (Add (Val 8) (Val 4))), operands first.
+const TABLE: [u8; 48] = [
+    1, 0, 0, 0, 0, 0, 0, 0, // node 0: Val 0
+    1, 0, 0, 0, 8, 0, 0, 0, // node 1: Val 8
+    1, 0, 0, 0, 4, 0, 0, 0, // node 2: Val 4
+    3, 0, 1, 0, 2, 0, 0, 0, // node 3: Add, left node 1, right node 2
+    6, 0, 3, 0, 0, 0, 0, 0, // node 4: Block of node 3
+    4, 0, 0, 0, 4, 0, 0, 0, // node 5: Seqn, first node 0, then node 4
+];
+
+fn main() -> Result<(), Refused> {
+    let mut buffer = [0; CODE_BYTES];
+    let mut stack = [0; STACK_BYTES];
+    let code = compile(&TABLE, &mut buffer)?;
+
+    let quiet = run(Status::Unblocked, code, &[], &mut stack);
+    println!("no recall: {}", what_happens(quiet)?);
+    for k in 0..code.len() / RECORD_BYTES {
+        let mut schedule = [0; 128];
+        schedule[k / 8] = 1 << (k % 8);
+        let recalled = run(Status::Unblocked, code, &schedule, &mut stack);
+        println!("recall at {k}: {}", what_happens(recalled)?);
+    }
+    Ok(())
+}
+
+/// What a worker does with the folder.
+fn what_happens(answer: Answer) -> Result<String, Refused> {
+    Ok(match answer.end? {
+        End::Number(lanes) => format!("{lanes} lanes to base calling"),
+        End::Throw => "back to the queue".to_string(),
+    })
+}
