@@ -3,6 +3,9 @@
 VERSION = 0.1.0
 PREFIX ?= /usr/local
 RECIPE ?= samples/R1.recipe
+# of the long comparison: inputs to try, and where its choices begin
+N ?= 10000000
+SEED ?= 1
 # what a build takes: the header, the archive, the pkg-config file
 LIB = target/lib
 
@@ -26,11 +29,15 @@ check:
 
 # the static library with its header
 .PHONY: lib
-lib:
-	@rt staticlib salnegris
-	@mkdir -p $(LIB)
-	@cp include/salnegris.h target/staticlib/libsalnegris.a $(LIB)
+lib: $(LIB)/salnegris.h $(LIB)/libsalnegris.a
 	@echo "$(LIB) has salnegris.h and libsalnegris.a"
+
+$(LIB)/libsalnegris.a: crates.txt $(shell find crates -name '*.rt' -o -name '*.antt')
+	@rt staticlib salnegris
+	@install -D -m 644 target/staticlib/libsalnegris.a $@
+
+$(LIB)/salnegris.h: include/salnegris.h
+	@install -D -m 644 $< $@
 
 .PHONY: install
 install: lib
@@ -38,6 +45,26 @@ install: lib
 	install -m 644 $(LIB)/salnegris.h "$(DESTDIR)$(PREFIX)/include"
 	install -m 644 $(LIB)/libsalnegris.a "$(DESTDIR)$(PREFIX)/lib"
 	sed -e 's|@PREFIX@|$(PREFIX)|' -e 's|@VERSION@|$(VERSION)|' include/salnegris.pc.in >"$(DESTDIR)$(PREFIX)/lib/pkgconfig/salnegris.pc"
+
+# the example worker, at target/worker
+.PHONY: worker
+worker: lib
+	@gcc -std=c99 -O2 -Wall -Wextra -I$(LIB) examples/worker.c -L$(LIB) -lsalnegris -o target/worker
+	@echo "target/worker FOLDER.. says what it does with each run folder"
+
+# the library beside the second program on N inputs
+.PHONY: fuzz
+fuzz: compare
+	@target/rust/release/compare long $(N) $(SEED)
+
+# the library's time beside plain Rust's
+.PHONY: bench
+bench: compare
+	@target/rust/release/bench
+
+.PHONY: compare
+compare: lib
+	@cd rust && cargo build --release --quiet --package compare
 
 .PHONY: clean
 clean:

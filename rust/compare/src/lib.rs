@@ -1,0 +1,11 @@
+//! The proved library and the baseline beside the second program, on the same inputs.
+
+pub mod chance;
+pub mod layout;
+pub mod lent;
+pub mod parts;
+pub mod recipes;
+pub mod tally;
+pub mod trial;
+pub mod worker;
+pub mod wrong;

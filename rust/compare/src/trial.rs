@@ -1,0 +1,134 @@
+//! One input after another, to the second program and to each worker: all fields of the answer and every byte of every lent
+//! buffer must be the same, and every byte around them as it was.
+
+use crate::lent::{Edge, Lent, MOST};
+use crate::tally::Tally;
+use crate::worker::Worker;
+use second::{Answer, Compiled};
+use std::fmt::Debug;
+
+pub struct Trial {
+    workers: Vec<Worker>,
+    pub tally: Tally,
+    /// Where the inputs come from, to be told with a difference.
+    pub source: String,
+    table: Lent,
+    code: Lent,
+    schedule: Lent,
+    stack: Lent,
+    /// What stands in a buffer before a call.
+    fresh: Vec<u8>,
+    wanted: Vec<u8>,
+}
+
+impl Trial {
+    pub fn new(workers: &[Worker]) -> Trial {
+        Trial {
+            workers: workers.to_vec(),
+            tally: Tally::default(),
+            source: String::new(),
+            table: Lent::nothing(),
+            code: Lent::nothing(),
+            schedule: Lent::nothing(),
+            stack: Lent::nothing(),
+            fresh: (0..MOST).map(|k| 1 + (k % 251) as u8).collect(),
+            wanted: vec![0; MOST],
+        }
+    }
+
+    /// Compiles a table into a buffer with so much room.
+    pub fn compile(&mut self, table: &[u8], room: usize) -> Compiled {
+        let wanted = &mut self.wanted[..room];
+        wanted.copy_from_slice(&self.fresh[..room]);
+        let answer = second::compile(table, wanted);
+        self.tally.compiled(answer);
+        for worker in &self.workers {
+            let edge = edge(self.tally.inputs);
+            let lent_table = self.table.lend(table, edge);
+            let given = (worker.compile)(lent_table, self.code.lend(&self.fresh[..room], edge));
+            let same = given == answer && self.code.holds(wanted) && self.table.holds(table);
+            if !same {
+                self.tally.differs(|| {
+                    format!(
+                        "{}: {} compiles table {} with room for {room} bytes\n{}",
+                        self.source,
+                        worker.name,
+                        hex(table),
+                        difference(&answer, &given, wanted, self.code.lent_bytes())
+                    )
+                });
+            }
+        }
+        answer
+    }
+
+    /// The code that was compiled last.
+    pub fn code(&self, compiled: Compiled) -> Vec<u8> {
+        self.wanted[..8 * compiled.length as usize].to_vec()
+    }
+
+    /// Runs code with so much room for the stack.
+    pub fn run(&mut self, status: u8, code: &[u8], schedule: &[u8], room: usize) -> Answer {
+        let wanted = &mut self.wanted[..room];
+        wanted.copy_from_slice(&self.fresh[..room]);
+        let answer = second::run(status, code, schedule, wanted);
+        self.tally.ran(answer);
+        for worker in &self.workers {
+            let edge = edge(self.tally.inputs);
+            let lent_code = self.code.lend(code, edge);
+            let lent_schedule = self.schedule.lend(schedule, edge);
+            let given =
+                (worker.run)(status, lent_code, lent_schedule, self.stack.lend(&self.fresh[..room], edge));
+            let same = given == answer
+                && self.stack.holds(wanted)
+                && self.code.holds(code)
+                && self.schedule.holds(schedule);
+            if !same {
+                self.tally.differs(|| {
+                    format!(
+                        "{}: {} runs code {} from status {status} under schedule {} with room for {room} bytes\n{}",
+                        self.source,
+                        worker.name,
+                        hex(code),
+                        hex(schedule),
+                        difference(&answer, &given, wanted, self.stack.lent_bytes())
+                    )
+                });
+            }
+        }
+        answer
+    }
+
+    /// A claim about answers, beside that they are the same.
+    pub fn claim(&mut self, what: &str, holds: bool) {
+        if !holds {
+            self.tally.differs(|| format!("{}: not so: {what}", self.source));
+        }
+    }
+}
+
+/// Buffers meet the one page and the other by turns.
+fn edge(input: u64) -> Edge {
+    match input % 2 {
+        0 => Edge::Front,
+        _ => Edge::Back,
+    }
+}
+
+fn difference<A: Debug>(wanted: &A, given: &A, buffer_wanted: &[u8], buffer: &[u8]) -> String {
+    let byte = match (0..buffer.len()).find(|&k| buffer[k] != buffer_wanted[k]) {
+        Some(k) => format!("byte {k} of the buffer: {:02x}, wanted {:02x}", buffer[k], buffer_wanted[k]),
+        None => {
+            "the buffer is as wanted; where the answer is too, a byte beside it or of an input was written"
+                .to_string()
+        }
+    };
+    format!("  wanted {wanted:?}\n  given  {given:?}\n  {byte}")
+}
+
+fn hex(bytes: &[u8]) -> String {
+    match bytes {
+        [] => "(empty)".to_string(),
+        _ => bytes.iter().map(|byte| format!("{byte:02x}")).collect(),
+    }
+}
