@@ -7,7 +7,7 @@
 mod report;
 
 use compare::chance::Chance;
-use compare::parts::{damage, lengths, rehearsal, rounds, small};
+use compare::parts::{damage, lengths, limit, rehearsal, rounds, small};
 use compare::tally::Tally;
 use compare::trial::Trial;
 use compare::worker::{Worker, BASELINE, LIBRARY};
@@ -25,7 +25,7 @@ const WORKERS: [Worker; 2] = [LIBRARY, BASELINE];
 /// Each takes every so-manieth round; fixed, so that the same rounds are made on every machine.
 const THREADS: u64 = 2;
 /// Inputs of the quick part's rounds.
-const QUICK: u64 = 1_500_000;
+const QUICK: u64 = 3_000_000;
 /// Inputs of the rehearsal program.
 const REHEARSALS: u64 = 400;
 /// Rounds in which a wrong worker has to be found.
@@ -71,6 +71,7 @@ fn tried(mut report: Report, nodes: usize, inputs: u64, seed: u64) -> ExitCode {
     report.part(&format!("all recipes of up to {nodes} nodes"), part(|trial| small::all(trial, nodes)));
     report.part("byte by byte", part(damage::byte_by_byte));
     report.part("lengths", part(lengths::all));
+    report.part("at the step limit", part(limit::all));
     report.part(&format!("rounds of seed {seed}"), in_threads(inputs, seed));
     report.met_everything();
     report.end()
@@ -84,6 +85,7 @@ fn part(inputs: impl FnOnce(&mut Trial)) -> Tally {
 
 fn found_out(wrong: Worker) -> bool {
     let mut trial = Trial::new(&[wrong]);
+    limit::all(&mut trial);
     (0..FINDING).any(|number| {
         rounds::round(&mut trial, SEED, number);
         trial.tally.differences > 0

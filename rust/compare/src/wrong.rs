@@ -5,7 +5,7 @@ use second::{Answer, Compiled};
 
 const RIGHT: Worker = LIBRARY;
 
-pub const WRONG: [Worker; 14] = [
+pub const WRONG: [Worker; 15] = [
     compiler("refuses all tables", |_, _| Compiled { length: 0, refusal: 1, place: 0 }),
     compiler("writes a byte past the code", |table, code| {
         let compiled = (RIGHT.compile)(table, code);
@@ -48,6 +48,15 @@ pub const WRONG: [Worker; 14] = [
     runner("counts a step that is refused", |status, code, schedule, stack| {
         let answer = (RIGHT.run)(status, code, schedule, stack);
         Answer { steps: answer.steps + u32::from(answer.refusal == 13), ..answer }
+    }),
+    runner("gives 15 before an end at the limit", |status, code, schedule, stack| {
+        let answer = (RIGHT.run)(status, code, schedule, stack);
+        match answer {
+            Answer { steps: 1535, refusal: 0 | 14, .. } => {
+                Answer { kind: 2, number: 0, refusal: 15, place: 0, ..answer }
+            }
+            _ => answer,
+        }
     }),
     runner("leaves the place at 0", |status, code, schedule, stack| Answer {
         place: 0,

@@ -5,11 +5,11 @@ use super::STACK;
 use crate::chance::Chance;
 use crate::trial::Trial;
 
-const PUSH: u8 = 1;
-const THROW: u8 = 2;
-const ADD: u8 = 3;
-const POP: u8 = 4;
-const MARK: u8 = 5;
+pub const PUSH: u8 = 1;
+pub const THROW: u8 = 2;
+pub const ADD: u8 = 3;
+pub const POP: u8 = 4;
+pub const MARK: u8 = 5;
 const UNMARK: u8 = 6;
 const SET: u8 = 7;
 const RESET: u8 = 8;
@@ -107,7 +107,7 @@ fn instruction(opcode: u8, address: usize, length: usize, chance: &mut Chance) -
     record
 }
 
-fn record(opcode: u8, operand: u32) -> [u8; 8] {
+pub fn record(opcode: u8, operand: u32) -> [u8; 8] {
     let mut record = [0; 8];
     record[0] = opcode;
     record[4..].copy_from_slice(&operand.to_le_bytes());

@@ -4,6 +4,7 @@ pub mod damage;
 pub mod demand;
 pub mod foreign;
 pub mod lengths;
+pub mod limit;
 pub mod recalled;
 pub mod rehearsal;
 pub mod rounds;
