@@ -7,7 +7,7 @@
 --   instruction-of-opcode   the instruction of a record, by its opcode
 --   instruction-of-no-opcode
 --                           and where it has none
---   operand-other           without an opcode no operand is refused
+--   most, operand-most      the greatest operand that an opcode takes, and that up to it each fits
 --   target-within, target-low, target-other
 --                           a target above the address, one that is not, and an opcode that has none
 --
@@ -15,14 +15,15 @@
 use Prim.Native.Nat.{ℕ, zero, suc, _*_, _≤_, _<_}
 use native.Mathlib.Decide.{decLt}
 use native.Mathlib.Omega.{arith}
-use borrow.Author.Tests.{lt-ltb, le-ltb}
-use lib.Dec.{ltb, leb}
+use borrow.Author.Tests.{lt-ltb, le-ltb, le-leb, lt-leb, ne-eqb}
+use lib.Dec.{eqb, ltb, leb, leb·suc-suc}
+use lib.ListN.{getD}
 use mathlib.Core.Bool.{true}
-use mathlib.Core.List.{List}
+use mathlib.Core.List.{List, [], _∷_}
 use mathlib.Core.Option.{none, some}
 use mathlib.Core.Path.{_≡_, refl, ap, sym, _∙_}
 use Rattle.rules.specs.Bytes.{byteAt, rowNumbered}
-use Rattle.rules.specs.CodeBytes.{OpcodeRow, opcodes, opcodeNumbered, opcodeAt, operandAt, instructionAt, targetFits}
+use Rattle.rules.specs.CodeBytes.{OpcodeRow, opcodes, opcodeNumbered, opcodeAt, operandAt, instructionAt, operandFits, targetFits}
 use Rattle.rules.specs.CodeBytes.Form.{Target}
 use Rattle.rules.specs.declared.Instruction.the-variants.{Throw}
 use Rattle.rules.proofs.Lookup.{RowKnown, row-known, row-unknown}
@@ -75,9 +76,27 @@ module _ (code : List ℕ) (a : ℕ) where
 
 -- ---- operands
 
-pub operand-other : (opcode word : ℕ) → opcodeNumbered opcode ≡ none → operandFitsAt opcode word ≡ true
-unfolding operandFitsAt
-operand-other opcode word missing = rw (missing, operandFitsAt)
+-- by opcode, from 0 on
+abbrev pub most : List ℕ
+most = 0 ∷ 4294967295 ∷ 0 ∷ 0 ∷ 0 ∷ 4294967295 ∷ 4294967295 ∷ 1 ∷ 0 ∷ []
+
+none-but-0 : (word : ℕ) → leb word 0 ≡ eqb word 0
+none-but-0 zero = refl
+none-but-0 (suc k) = lt-leb (suc k) 0 (omega arith) ∙ sym (ne-eqb (suc k) 0 (λ e. omega (arith, e)))
+
+pub operand-most : (opcode word : ℕ) → 1 ≤ opcode → opcode ≤ 8 → word < 4294967296
+    → leb word (getD most opcode 0) ≡ operandFitsAt opcode word
+unfolding opcodes rowNumbered operandFits operandFitsAt
+operand-most zero word l h w = absurd (omega arith)
+operand-most (suc zero) word l h w = le-leb word 4294967295 (omega arith)
+operand-most (suc (suc zero)) word l h w = none-but-0 word
+operand-most (suc (suc (suc zero))) word l h w = none-but-0 word
+operand-most (suc (suc (suc (suc zero)))) word l h w = none-but-0 word
+operand-most (suc (suc (suc (suc (suc zero))))) word l h w = le-leb word 4294967295 (omega arith)
+operand-most (suc (suc (suc (suc (suc (suc zero)))))) word l h w = le-leb word 4294967295 (omega arith)
+operand-most (suc (suc (suc (suc (suc (suc (suc zero))))))) word l h w = sym (leb·suc-suc word 1)
+operand-most (suc (suc (suc (suc (suc (suc (suc (suc zero)))))))) word l h w = none-but-0 word
+operand-most (suc (suc (suc (suc (suc (suc (suc (suc (suc k))))))))) word l h w = absurd (omega arith)
 
 module _ (word a n : ℕ) where
   pub target-within : a < word → leb word n ≡ targetFits Target word a n

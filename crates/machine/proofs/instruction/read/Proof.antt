@@ -31,8 +31,11 @@ returns c =
     c .refused .ensures
     ∙ sym (reads-opcode (s .code .now) (s .a) (c .before .before .byte .ensures .0) (opcode-unknown opcode outside))
 
+inside : (c : tie.Else2) → (1 ≤ c .before .before .byte .result) × (c .before .before .byte .result ≤ 8)
+inside c = (omega (arith, c .before .if1 .left), ltb-false 8 _ (c .if2 .left))
+
 known : (c : tie.Else2) → Known (c .before .before .byte .result)
-known c = opcode-known _ (omega (arith, c .before .if1 .left)) (ltb-false 8 _ (c .if2 .left))
+known c = opcode-known _ (inside c .0) (inside c .1)
 
 mul-byte-2 : tie.Need-mul-byte-2
 mul-byte-2 c = search needs
@@ -64,11 +67,8 @@ add-word c = search needs
 word-requires : tie.Need-word-requires
 word-requires c κs = search needs
 
-cast-operand : tie.Need-cast-operand
-cast-operand c = search needs
-
 operand-fits-requires : tie.Need-operand-fits-requires
-operand-fits-requires c κs = search needs
+operand-fits-requires c κs = inside (c .before .before .before .before)
 
 refused-requires-2 : tie.Need-refused-requires-2
 refused-requires-2 c κs = search needs
@@ -88,6 +88,9 @@ returns-2 c =
     (λ way. reads-operand code (s .a) (b .byte .ensures .0) opcode (w .word .ensures) size
     (sym (way .1 .ensures) ∙ not-true _ (way .2 .taken)))
     (c .before .if3 .came))
+
+cast-target-fits : tie.Need-cast-target-fits
+cast-target-fits c = search needs
 
 target-fits-requires : tie.Need-target-fits-requires
 target-fits-requires c κs = search needs
@@ -148,10 +151,10 @@ read-spec =
     mul-word
     add-word
     word-requires
-    cast-operand
     operand-fits-requires
     refused-requires-2
     returns-2
+    cast-target-fits
     target-fits-requires
     at-requires
     refused-requires-3
