@@ -18,8 +18,9 @@ const SHAPES: [(&str, Shape); 4] = [
     ("mixed", Shape::Working),
 ];
 const SIZES: [usize; 4] = [8, 32, 128, 512];
-/// Recipes of a shape and size, so that no branch is learnt by heart.
-const RECIPES: usize = 16;
+/// Nodes of all recipes of a shape and size: as many small ones as make up for the large ones, so that no branch is learnt by
+/// heart where the recipes are small.
+const NODES: usize = 8192;
 const SAMPLES: usize = 41;
 /// Nodes compiled, or steps taken, in a sample.
 const WORK: usize = 200_000;
@@ -77,7 +78,7 @@ impl Set {
     fn new(shape: Shape, nodes: usize) -> Set {
         let chance = &mut Chance::new(nodes as u64);
         let tables: Vec<_> =
-            (0..RECIPES).map(|_| layout::table(&shape.recipe(nodes, chance), chance)).collect();
+            (0..NODES / nodes).map(|_| layout::table(&shape.recipe(nodes, chance), chance)).collect();
         let codes = tables
             .iter()
             .map(|table| {
@@ -92,7 +93,7 @@ impl Set {
 
     fn compiling(&self) -> Measured {
         let mut code = vec![0; CODE];
-        measured(WORK / self.nodes / RECIPES, RECIPES * self.nodes, |worker| {
+        measured(WORK / NODES, self.tables.len() * self.nodes, |worker| {
             for table in &self.tables {
                 black_box((worker.compile)(black_box(table), black_box(&mut code)));
             }
