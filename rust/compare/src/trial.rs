@@ -107,9 +107,9 @@ impl Trial {
     }
 }
 
-/// Buffers meet the one page and the other by turns.
+/// Buffers meet the one page and the other, in an order that no row of inputs has.
 fn edge(input: u64) -> Edge {
-    match input % 2 {
+    match input.count_ones() % 2 {
         0 => Edge::Front,
         _ => Edge::Back,
     }

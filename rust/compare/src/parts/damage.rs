@@ -21,8 +21,8 @@ pub fn byte_by_byte(trial: &mut Trial) {
         trial.compile(damaged, CODE);
     });
     each_byte(&code, 0..=255, |damaged| {
-        for status in [0, 1] {
-            trial.run(status, damaged, &[0, 8], STACK);
+        for (status, schedule) in [(0, &[][..]), (1, &[]), (1, &[RECALL_AT_UNMARK])] {
+            trial.run(status, damaged, schedule, STACK);
         }
     });
     let chance = &mut Chance::new(512);
@@ -31,6 +31,9 @@ pub fn byte_by_byte(trial: &mut Trial) {
         trial.compile(damaged, CODE);
     });
 }
+
+/// Of the code below: SET, MARK, SET, PUSH, PUSH, ADD, RESET, UNMARK, and so on.
+const RECALL_AT_UNMARK: u8 = 1 << 7;
 
 /// Unblock (Catch (Block (Add (Val 5) (Val 7))) (Seqn (Val 6) Throw)).
 fn every_kind() -> Expression {

@@ -6,6 +6,7 @@ use crate::layout::Nodes;
 use crate::lent::MOST;
 use crate::recipes::Shape;
 use crate::trial::Trial;
+use second::expression::Expression::{Unblock, Val};
 
 /// More nodes than a table may have.
 const MANY: usize = 520;
@@ -28,7 +29,9 @@ fn tower() -> Vec<u8> {
 fn tables(trial: &mut Trial) {
     let tower = tower();
     for bytes in 0..=tower.len() {
-        trial.compile(&tower[..bytes], CODE);
+        let compiled = trial.compile(&tower[..bytes], CODE);
+        let whole = bytes % 8 == 0 && (8..=4096).contains(&bytes);
+        trial.claim("1 to 512 whole nodes are a table", (compiled.refusal == 0) == whole);
     }
 }
 
@@ -37,7 +40,8 @@ fn code_buffers(trial: &mut Trial) {
     for nodes in 1..=512 {
         let exact = 8 * (2 * nodes - 1);
         for room in [0, exact - 8, exact - 7, exact - 1, exact, exact + 1, exact + 8, MOST] {
-            trial.compile(&tower[..8 * nodes], room);
+            let compiled = trial.compile(&tower[..8 * nodes], room);
+            trial.claim("8 bytes an instruction are enough", (compiled.refusal == 0) == (room >= exact));
         }
     }
 }
@@ -46,25 +50,36 @@ fn code_buffers(trial: &mut Trial) {
 fn codes(trial: &mut Trial) {
     let code: Vec<u8> = [[1, 0, 0, 0, 9, 0, 0, 0], [4, 0, 0, 0, 0, 0, 0, 0]].concat().repeat(600);
     for bytes in 0..=CODE + 32 {
-        trial.run(1, &code[..bytes], &[], STACK);
+        let answer = trial.run(1, &code[..bytes], &[], STACK);
+        trial.claim(
+            "an odd number of whole instructions ends",
+            (answer.kind == 0) == (bytes % 16 == 8 && bytes <= CODE),
+        );
     }
 }
 
 fn stacks(trial: &mut Trial) {
     let code = [1, 0, 0, 0, 9, 0, 0, 0];
     for room in (0..=STACK + 64).chain(MOST - 64..=MOST) {
-        trial.run(1, &code, &[], room);
+        let answer = trial.run(1, &code, &[], room);
+        trial.claim("a stack of 4,096 bytes is enough", (answer.kind == 0) == (room >= STACK));
     }
 }
 
-/// One recall, at the last bit of a schedule of each length: it strikes as long as that instruction is reached.
+/// One recall, at the last bit of a schedule of each length, in Unblocks over a Val: it strikes as long as its instruction is
+/// one of the 1,023.
 fn schedules(trial: &mut Trial) {
-    let compiled = trial.compile(&tower()[..4096], CODE);
-    let code: Vec<u8> =
-        trial.code(compiled).iter().enumerate().map(|(k, &byte)| if k % 8 == 4 { 1 } else { byte }).collect();
-    for bytes in 1..=4000 {
+    let openings = (1..512).fold(Val(9), |opened, _| Unblock(Box::new(opened)));
+    let nodes = Nodes::of(&openings);
+    let compiled = trial.compile(&nodes.table(&nodes.in_order()), CODE);
+    let code = trial.code(compiled);
+    for bytes in 0..=4000 {
         let mut schedule = vec![0; bytes];
-        schedule[bytes - 1] = 0x80;
-        trial.run(1, &code, &schedule, STACK);
+        if let Some(last) = schedule.last_mut() {
+            *last = 0x80;
+        }
+        let answer = trial.run(1, &code, &schedule, STACK);
+        let strikes = (1..=127).contains(&bytes);
+        trial.claim("a recall strikes where it is placed", answer.kind == u32::from(strikes));
     }
 }
