@@ -1,6 +1,6 @@
 -- `machine::instruction::operand_fits` meets its contract, by the law of the table. Assumes nothing.
 use borrow.Author.Needs.{needs}
-use Rattle.machine.proofs.Opcodes.{most, operand-most}
+use Rattle.machine.proofs.Opcodes.{operand-most}
 use Rattle.machine.proofs.instruction.operand_fits.Statement.{statement}
 use Rattle.machine.proofs.instruction.operand_fits.Tie as tie
 
