@@ -23,8 +23,8 @@ use Rattle.rules.specs.declared.Checked.the-variants.{Accepted}
 use Rattle.rules.specs.declared.Compiled.the-variants.{Length, Refused}
 use Rattle.rules.specs.declared.Reason.the-variants.{CodeBuffer}
 use Rattle.rules.specs.declared.Refusal.{Refusal}
-use Rattle.rules.proofs.Answered.{compile-passed, compile-refused}
-use Rattle.rules.proofs.Tests.{first-only, rows-passed, rows-refused}
+use Rattle.rules.proofs.Bytes.Answered.{compile-passed, compile-refused}
+use Rattle.rules.proofs.Refusals.{first-only, rows-passed, rows-refused}
 use Rattle.table.specs.Checking.{checkAnswer}
 use Rattle.table.proofs.Acceptance.{check-passed, check-refused, last-node, last-recipe, recipe-short}
 use Rattle.compiler.specs.Walking.{Measurable, Emittable, Emitted}

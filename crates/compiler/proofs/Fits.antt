@@ -17,7 +17,7 @@ use Rattle.rules.specs.Refusals.{firstRefusal}
 use Rattle.rules.specs.Table.{tableTests}
 use Rattle.rules.specs.declared.Compiled.the-variants.{Length, Refused}
 use Rattle.rules.specs.declared.Refusal.{Refusal}
-use Rattle.rules.proofs.Tests.{refused-not-passed, unless-passed, first-only, rows-passed, rows-refused}
+use Rattle.rules.proofs.Refusals.{refused-not-passed, unless-passed, first-only, rows-passed, rows-refused}
 
 module _ (table code : List ℕ) where
   buffer-passed : (o : Option Refusal) → firstRefusal (tableTests table) ≡ o → firstRefusal (compileTests table code) ≡ none

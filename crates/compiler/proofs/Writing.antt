@@ -23,8 +23,8 @@ use Rattle.rules.specs.declared.Status.{Status}
 use Rattle.rules.specs.declared.Status.the-variants.{Blocked, Unblocked}
 use Rattle.rules.specs.declared.Instruction.{Instruction}
 use Rattle.rules.specs.declared.Instruction.the-variants.{Push, Pop, Mark, Unmark, Set, Reset}
-use Rattle.rules.proofs.Holding.{length-compile}
-use Rattle.rules.proofs.CodeBytes.{length-bytesOf, length-bytesOf-compile, bytesOf-append}
+use Rattle.rules.proofs.Theory.Holding.{length-compile}
+use Rattle.rules.proofs.Bytes.CodeBytes.{length-bytesOf, length-bytesOf-compile, bytesOf-append}
 use Rattle.compiler.proofs.Stores.{sets-append, sets-comm, sets-front}
 
 abbrev pub stored : List ℕ → ℕ → List Instruction → List ℕ

@@ -32,7 +32,7 @@ use Rattle.rules.specs.declared.Node.the-variants.{Add, Seqn, Catch}
 use Rattle.rules.specs.declared.Outcome.{Outcome}
 use Rattle.rules.specs.declared.Outcome.the-variants.{Ended}
 use Rattle.rules.specs.declared.Refusal.{Refusal}
-use Rattle.rules.proofs.Answered.{evaluate-passed, evaluate-refused}
+use Rattle.rules.proofs.Bytes.Answered.{evaluate-passed, evaluate-refused}
 use Rattle.table.specs.Acceptance.{AcceptedNode, Says}
 use Rattle.table.specs.Checking.{checkAnswer}
 use Rattle.table.proofs.Acceptance.{check-passed, check-refused, node-below, one-below, both-below, last-recipe}

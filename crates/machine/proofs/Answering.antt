@@ -24,9 +24,9 @@ use Rattle.rules.specs.Schedule.{asks}
 use Rattle.rules.specs.declared.Checked.the-variants.{Accepted, Refused}
 use Rattle.rules.specs.declared.Reason.the-variants.{Status, StackBuffer, CodeSize}
 use Rattle.rules.specs.declared.Refusal.{Refusal}
-use Rattle.rules.proofs.Answered.{run-passed, run-refused}
-use Rattle.rules.proofs.Sizes.{whole-means}
-use Rattle.rules.proofs.Tests.{unless-passed, first-none, checked-accepted, checked-refused}
+use Rattle.rules.proofs.Bytes.Answered.{run-passed, run-refused}
+use Rattle.rules.proofs.Bytes.Sizes.{whole-means}
+use Rattle.rules.proofs.Refusals.{unless-passed, first-none, checked-accepted, checked-refused}
 use Rattle.machine.specs.Runs.{Runnable}
 use Rattle.machine.proofs.CodeWalk.{checkAnswer}
 

@@ -22,7 +22,7 @@ use Rattle.rules.specs.declared.Checked.the-variants.{Accepted, Refused}
 use Rattle.rules.specs.declared.Instruction.{Instruction}
 use Rattle.rules.specs.declared.Reason.the-variants.{CodeSize}
 use Rattle.rules.specs.declared.Refusal.{Refusal}
-use Rattle.rules.proofs.Tests.{lowest-next, lowest-found}
+use Rattle.rules.proofs.Refusals.{lowest-next, lowest-found}
 use Rattle.machine.specs.Reading.{readingAt}
 use Rattle.machine.specs.declared.instruction.Reading.{Reading}
 use Rattle.machine.specs.declared.instruction.Reading.the-variants.{Sound}

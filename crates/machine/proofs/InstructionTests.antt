@@ -23,7 +23,7 @@ use Rattle.rules.specs.Refusals.{unless, firstRefusal}
 use Rattle.rules.specs.declared.Instruction.{Instruction}
 use Rattle.rules.specs.declared.Reason.the-variants.{Opcode, Field, Target}
 use Rattle.rules.specs.declared.Refusal.{Refusal}
-use Rattle.rules.proofs.Records.{zero-padding}
+use Rattle.rules.proofs.Bytes.Records.{zero-padding}
 use Rattle.machine.specs.Reading.{readingAt, operandFitsAt, targetFitsAt}
 use Rattle.machine.specs.declared.instruction.Reading.the-variants.{Sound, Refused}
 use Rattle.machine.proofs.Opcodes.{Known, opcode-at}

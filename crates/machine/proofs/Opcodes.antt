@@ -26,7 +26,7 @@ use Rattle.rules.specs.Bytes.{byteAt, rowNumbered}
 use Rattle.rules.specs.CodeBytes.{OpcodeRow, opcodes, opcodeNumbered, opcodeAt, operandAt, instructionAt, operandFits, targetFits}
 use Rattle.rules.specs.CodeBytes.Form.{Target}
 use Rattle.rules.specs.declared.Instruction.the-variants.{Throw}
-use Rattle.rules.proofs.Lookup.{RowKnown, row-known, row-unknown}
+use Rattle.rules.proofs.Lists.{RowKnown, row-known, row-unknown}
 use Rattle.machine.specs.Reading.{operandFitsAt, targetFitsAt}
 
 -- ---- opcodes

@@ -18,8 +18,8 @@ use Rattle.rules.specs.Machine.{execute, cuts, atInstruction, stepAt, step}
 use Rattle.rules.specs.Schedule.{asks}
 use Rattle.rules.specs.declared.Instruction.{Instruction}
 use Rattle.rules.specs.declared.Instruction.the-variants.{Throw}
-use Rattle.rules.proofs.Counted.{Counted, instruction-counted}
-use Rattle.rules.proofs.Instructions.{instruction-found}
+use Rattle.rules.proofs.Step.Counted.{Counted, instruction-counted}
+use Rattle.rules.proofs.Bytes.Instructions.{instruction-found}
 use Rattle.machine.specs.Items.{itemsOf}
 use Rattle.machine.specs.States.{stateOf, stepOf, onwardOf, AtInstruction, Steppable, Carries, Steps}
 use Rattle.machine.specs.declared.state.Machine.{Machine}

@@ -32,7 +32,7 @@ use Rattle.rules.specs.Limits.{itemLimit, stackBytes}
 use Rattle.rules.specs.Number.{residue}
 use Rattle.rules.specs.declared.Item.{Item}
 use Rattle.rules.specs.declared.Item.the-variants.{Number}
-use Rattle.rules.proofs.Records.{word-whole}
+use Rattle.rules.proofs.Bytes.Records.{word-whole}
 use Rattle.record.proofs.Signed.{signed-toZ, residue-ofZ}
 use Rattle.machine.specs.Items.{itemTagged, itemAt, itemsOf, Stored}
 

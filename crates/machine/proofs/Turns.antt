@@ -30,8 +30,8 @@ use Rattle.rules.specs.declared.Outcome.the-variants.{Ended, Refused}
 use Rattle.rules.specs.declared.Reason.{Reason}
 use Rattle.rules.specs.declared.Reason.the-variants.{StackFull}
 use Rattle.rules.specs.declared.Status.{Status}
-use Rattle.rules.proofs.Counted.{Counted, unwound-counted}
-use Rattle.rules.proofs.Instructions.{instruction-missing}
+use Rattle.rules.proofs.Step.Counted.{Counted, unwound-counted}
+use Rattle.rules.proofs.Bytes.Instructions.{instruction-missing}
 use Rattle.machine.specs.Items.{itemsOf}
 use Rattle.machine.specs.Runs.{Runnable}
 use Rattle.machine.specs.States.{stateOf, stepOf, freshOf, AtInstruction, Steppable, Unwindable, Steps, Unwinds}

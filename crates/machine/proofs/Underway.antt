@@ -23,8 +23,8 @@ use Rattle.rules.specs.declared.Instruction.{Instruction}
 use Rattle.rules.specs.declared.Outcome.{Outcome}
 use Rattle.rules.specs.declared.Outcome.the-variants.{Refused}
 use Rattle.rules.specs.declared.Refusal.{Refusal}
-use Rattle.rules.proofs.Counted.{Counted, run-limit}
-use Rattle.rules.proofs.Order.{run-next, run-stuck, run-over}
+use Rattle.rules.proofs.Step.Counted.{Counted, run-limit}
+use Rattle.rules.proofs.Step.Order.{run-next, run-stuck, run-over}
 use Rattle.machine.specs.Items.{itemsOf}
 use Rattle.machine.specs.States.{stateOf}
 use Rattle.machine.specs.declared.state.Machine.{Machine}

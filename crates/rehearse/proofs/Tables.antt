@@ -19,7 +19,7 @@ use Rattle.rules.specs.Rehearsal.{rehearse}
 use Rattle.rules.specs.Running.{runAnswer}
 use Rattle.rules.specs.declared.Compiled.{Compiled}
 use Rattle.rules.specs.declared.Compiled.the-variants.{Length, Refused}
-use Rattle.rules.proofs.Answered.{compile-passed}
+use Rattle.rules.proofs.Bytes.Answered.{compile-passed}
 use Rattle.salnegris.proofs.Accepted.{passes, code-length, buffer-room}
 
 abbrev buffer : List ℕ

@@ -1,30 +1,14 @@
-pub mod Addresses
-pub mod Along
-pub mod AnswerBounds
-pub mod Answered
-pub mod CodeBytes
-pub mod CompiledCode
-pub mod Completeness
-pub mod Computing
-pub mod Counted
-pub mod Demand
-pub mod Foreign
-pub mod Holding
-pub mod Instructions
-pub mod Lines
-pub mod Lookup
-pub mod Order
-pub mod Path
-pub mod Quiet
-pub mod Records
-pub mod RefusedPlaces
-pub mod Rehearsed
-pub mod ScheduleBytes
-pub mod Sizes
-pub mod Soundness
-pub mod StepBounds
-pub mod Tests
-pub mod Tried
-pub mod Ways
-pub mod Witnesses
-pub mod WrittenCode
+-- What is proved of the definitions, room by room; a room's own file says what stands in it.
+--
+--   Lists      lists, whatever they hold
+--   Refusals   tests in their order (`specs/Refusals`)
+--   Step       one step of the machine, and a run (`specs/Machine`, `specs/Run`)
+--   Theory     demand 3: the code of an expression ends in what the evaluation rules permit (`specs/Demand`)
+--   Bytes      the same over bytes: tables, codes and schedules as they are lent, and the answers
+--   Computed   cases of document 01, and others, that are only computed
+pub mod Bytes
+pub mod Computed
+pub mod Lists
+pub mod Refusals
+pub mod Step
+pub mod Theory

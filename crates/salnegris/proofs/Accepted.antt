@@ -34,9 +34,9 @@ use Rattle.rules.specs.Table.{tableTests}
 use Rattle.rules.specs.declared.Reason.{Reason}
 use Rattle.rules.specs.declared.Reason.the-variants.{TableSize, Kind, UnusedByte, Operand, Uses, CodeBuffer, Status, StackBuffer, CodeSize, Opcode, Field, Target, StackFull, NoRule, Steps}
 use Rattle.rules.specs.declared.Refusal.{Refusal}
-use Rattle.rules.proofs.Answered.{compile-passed, compile-refused}
-use Rattle.rules.proofs.CodeBytes.{length-bytesOf-compile}
-use Rattle.rules.proofs.Tests.{unless-passed, first-none, first-only, rows-none, rows-passed}
+use Rattle.rules.proofs.Bytes.Answered.{compile-passed, compile-refused}
+use Rattle.rules.proofs.Bytes.CodeBytes.{length-bytesOf-compile}
+use Rattle.rules.proofs.Refusals.{unless-passed, first-none, first-only, rows-none, rows-passed}
 use Rattle.table.specs.Acceptance.{AcceptedTable}
 use Rattle.table.proofs.Acceptance.{accepted, recipe-nodes, recipe-short}
 

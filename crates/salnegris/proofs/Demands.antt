@@ -52,8 +52,8 @@ use Rattle.rules.specs.Compiling.{codeOf}
 use Rattle.rules.specs.Demand.{ofExpression, mostSteps, mostReached, Ends}
 use Rattle.rules.specs.declared.Answer.{Answer}
 use Rattle.rules.specs.declared.Outcome.the-variants.{Ended}
-use Rattle.rules.proofs.Answered.{compile-passed, compile-refused, evaluate-passed, run-passed, run-refused}
-use Rattle.rules.proofs.ScheduleBytes.{scheduleOf, scheduleOf-bytes, asks-scheduleOf, asks-nothing}
+use Rattle.rules.proofs.Bytes.Answered.{compile-passed, compile-refused, evaluate-passed, run-passed, run-refused}
+use Rattle.rules.proofs.Bytes.ScheduleBytes.{scheduleOf, scheduleOf-bytes, asks-scheduleOf, asks-nothing}
 use Rattle.table.proofs.Acceptance.{recipe-short}
 use Rattle.salnegris.proofs.Accepted.{Passes, passes, table-passes, table-accepted, few-nodes, code-length, code-left, later-left, enough}
 use Rattle.salnegris.proofs.Inside.{compile-inside, run-inside}

@@ -14,8 +14,8 @@ use Rattle.rules.specs.Compiling.{compileTests, compileAnswer}
 use Rattle.rules.specs.Refusals.{firstRefusal}
 use Rattle.rules.specs.Running.{runAnswer}
 use Rattle.rules.specs.declared.Refusal.{Refusal}
-use Rattle.rules.proofs.AnswerBounds.{compile-place, run-small}
-use Rattle.rules.proofs.Answered.{compile-refused}
+use Rattle.rules.proofs.Bytes.AnswerBounds.{compile-place, run-small}
+use Rattle.rules.proofs.Bytes.Answered.{compile-refused}
 use Rattle.salnegris.specs.Fields.{CompiledFits, AnswerFits}
 use Rattle.salnegris.proofs.Accepted.{Passes, code-length, short-code}
 

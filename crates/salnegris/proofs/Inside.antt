@@ -18,9 +18,9 @@ use Rattle.rules.specs.Refusals.{firstRefusal}
 use Rattle.rules.specs.Running.{runTests, runLeaves}
 use Rattle.rules.specs.declared.Reason.the-variants.{StackBuffer}
 use Rattle.rules.specs.declared.Refusal.{Refusal}
-use Rattle.rules.proofs.Answered.{compile-passed, compile-refused, run-passed, run-refused}
-use Rattle.rules.proofs.CodeBytes.{length-bytesOf-compile}
-use Rattle.rules.proofs.Tests.{unless-passed, first-none}
+use Rattle.rules.proofs.Bytes.Answered.{compile-passed, compile-refused, run-passed, run-refused}
+use Rattle.rules.proofs.Bytes.CodeBytes.{length-bytesOf-compile}
+use Rattle.rules.proofs.Refusals.{unless-passed, first-none}
 use Rattle.salnegris.proofs.Accepted.{Passes, buffer-room}
 
 module _ (table buffer : List ℕ) where

@@ -25,9 +25,9 @@ use Rattle.rules.specs.Running.{runTests, runAnswer}
 use Rattle.rules.specs.Schedule.{asks}
 use Rattle.rules.specs.declared.Status.{Status}
 use Rattle.rules.specs.declared.Status.the-variants.{Blocked, Unblocked}
-use Rattle.rules.proofs.Answered.{run-passed}
-use Rattle.rules.proofs.CompiledCode.{recipe-in-range, instructions-compiled, compiled-passes}
-use Rattle.rules.proofs.Demand.{demand}
+use Rattle.rules.proofs.Bytes.Answered.{run-passed}
+use Rattle.rules.proofs.Bytes.CompiledCode.{recipe-in-range, instructions-compiled, compiled-passes}
+use Rattle.rules.proofs.Theory.Demand.{demand}
 use Rattle.machine.proofs.Answering.{status-refused, stack-refused}
 use Rattle.salnegris.proofs.Accepted.{Passes, few-nodes, short-code}
 

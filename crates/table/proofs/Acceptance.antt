@@ -32,9 +32,9 @@ use Rattle.rules.specs.Table.{nodeAt, allBelow, nodeTest, useTest, tableTests}
 use Rattle.rules.specs.declared.Checked.the-variants.{Accepted, Refused}
 use Rattle.rules.specs.declared.Node.{Node}
 use Rattle.rules.specs.declared.Refusal.{Refusal}
-use Rattle.rules.proofs.Holding.{codeLength-nodes}
-use Rattle.rules.proofs.Sizes.{whole-means}
-use Rattle.rules.proofs.Tests.{unless-passed, first-none, lowest-none, checked-accepted, checked-refused}
+use Rattle.rules.proofs.Theory.Holding.{codeLength-nodes}
+use Rattle.rules.proofs.Bytes.Sizes.{whole-means}
+use Rattle.rules.proofs.Refusals.{unless-passed, first-none, lowest-none, checked-accepted, checked-refused}
 use Rattle.table.specs.Acceptance.{AcceptedTable, AcceptedNode, Says}
 use Rattle.table.specs.Checking.{checkAnswer}
 use Rattle.table.specs.Column.{columnSum}

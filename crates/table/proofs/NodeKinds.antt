@@ -17,7 +17,7 @@ use mathlib.Core.Path.{_≡_, ap, sym, _∙_}
 use Rattle.rules.specs.Bytes.{byteAt}
 use Rattle.rules.specs.Table.{KindRow, kinds, kindNumbered, kindAt, nodeOf, nodeAt}
 use Rattle.rules.specs.declared.Node.the-variants.{Throw}
-use Rattle.rules.proofs.Lookup.{RowKnown, row-known, row-unknown}
+use Rattle.rules.proofs.Lists.{RowKnown, row-known, row-unknown}
 
 -- ---- kinds
 

@@ -24,7 +24,7 @@ use Rattle.rules.specs.declared.Node.{Node}
 use Rattle.rules.specs.declared.Reason.{Reason}
 use Rattle.rules.specs.declared.Reason.the-variants.{UnusedByte, Operand}
 use Rattle.rules.specs.declared.Refusal.{Refusal}
-use Rattle.rules.proofs.Tests.{first-none, unless-passed}
+use Rattle.rules.proofs.Refusals.{first-none, unless-passed}
 use Rattle.table.specs.Checking.{readingAt, unusedZero}
 use Rattle.table.specs.declared.node.Reading.the-variants.{Sound, Refused}
 use Rattle.table.proofs.NodeKinds.{Known, kind-at, node-of-kind}

@@ -13,7 +13,7 @@ use mathlib.Core.Option.{none}
 use mathlib.Core.Path.{_≡_}
 use Rattle.rules.specs.Bytes.{byteAt, halfAt, allZero}
 use Rattle.rules.specs.Table.{kindNumbered}
-use Rattle.rules.proofs.Records.{zero-and, zero-half, zero-padding}
+use Rattle.rules.proofs.Bytes.Records.{zero-and, zero-half, zero-padding}
 use Rattle.table.specs.Checking.{unusedZero}
 
 module _ (table : List ℕ) (base : ℕ) where

@@ -23,7 +23,7 @@ use Rattle.rules.specs.declared.Checked.the-variants.{Accepted, Refused}
 use Rattle.rules.specs.declared.Node.{Node}
 use Rattle.rules.specs.declared.Reason.the-variants.{TableSize}
 use Rattle.rules.specs.declared.Refusal.{Refusal}
-use Rattle.rules.proofs.Tests.{refused-not-passed, first-only, lowest-next, lowest-found}
+use Rattle.rules.proofs.Refusals.{refused-not-passed, first-only, lowest-next, lowest-found}
 use Rattle.table.specs.Checking.{checkAnswer, readingAt}
 use Rattle.table.specs.Counts.{counted, Room, CountsUses, Countable, NodesChecked}
 use Rattle.table.specs.declared.node.Reading.{Reading}

@@ -9,8 +9,8 @@ use mathlib.Core.Path.{_≡_, ap, sym, _∙_}
 use Rattle.rules.specs.Bytes.{wholeRecords}
 use Rattle.rules.specs.Limits.{tableLimit}
 use Rattle.rules.specs.Refusals.{checkedBy}
-use Rattle.rules.proofs.Sizes.{whole, whole-means, not-whole-none, not-whole-many, not-whole-part}
-use Rattle.rules.proofs.Tests.{checked-accepted, checked-refused}
+use Rattle.rules.proofs.Bytes.Sizes.{whole, whole-means, not-whole-none, not-whole-many, not-whole-part}
+use Rattle.rules.proofs.Refusals.{checked-accepted, checked-refused}
 use Rattle.table.proofs.Tally.{none-counted, counted-tests}
 use Rattle.table.proofs.Walk.{check-size, check-node, check-uses}
 use Rattle.table.proofs.check.Statement.{statement}

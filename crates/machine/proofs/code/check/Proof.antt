@@ -10,7 +10,7 @@ use mathlib.Core.Logic.{⊎-elim}
 use mathlib.Core.Path.{_≡_, refl, sym, _∙_}
 use Rattle.rules.specs.Bytes.{records, wholeRecords}
 use Rattle.rules.specs.Limits.{codeLimit, instructionLimit}
-use Rattle.rules.proofs.Sizes.{whole, whole-means, not-whole-none, not-whole-many, not-whole-part}
+use Rattle.rules.proofs.Bytes.Sizes.{whole, whole-means, not-whole-none, not-whole-many, not-whole-part}
 use Rattle.machine.proofs.CodeWalk.{Walked, check-size, walk-begins, walk-goes-on, walk-stops, walk-ends}
 use Rattle.machine.proofs.code.check.Statement.{statement}
 use Rattle.machine.proofs.code.check.Tie as tie

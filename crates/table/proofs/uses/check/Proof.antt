@@ -5,7 +5,7 @@ use borrow.Author.Tests.{eq-eqb}
 use mathlib.Core.Path.{sym, _≡_, refl}
 use mathlib.Core.Option.{none}
 use Rattle.rules.specs.Refusals.{unless, lowestRefusal}
-use Rattle.rules.proofs.Tests.{lowest-next}
+use Rattle.rules.proofs.Refusals.{lowest-next}
 use Rattle.table.specs.Counts.{countTest}
 use Rattle.table.proofs.Tally.{count-wrong, counts-right}
 use Rattle.table.proofs.uses.check.Statement.{statement}

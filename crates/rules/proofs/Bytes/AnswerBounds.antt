@@ -27,13 +27,13 @@ use Rattle.rules.specs.declared.Outcome.{Outcome}
 use Rattle.rules.specs.declared.Outcome.the-variants.{Refused}
 use Rattle.rules.specs.declared.Refusal.{Refusal}
 use Rattle.rules.specs.declared.Status.{Status}
-use Rattle.rules.proofs.Addresses.{Within, Bounded, bounded-accepted, step-within}
-use Rattle.rules.proofs.Answered.{compile-passed, compile-refused, run-passed, run-refused}
-use Rattle.rules.proofs.Instructions.{length-instructions}
-use Rattle.rules.proofs.Order.{run-next, run-stuck, run-limit-next, run-limit-stuck, run-over}
-use Rattle.rules.proofs.RefusedPlaces.{RefusesBelow, passes, refuses, compiling-below, accepted-few, running-below}
-use Rattle.rules.proofs.StepBounds.{Limited, step-limited}
-use Rattle.rules.proofs.Tests.{first-none}
+use Rattle.rules.proofs.Step.Addresses.{Within, Bounded, bounded-accepted, step-within}
+use Rattle.rules.proofs.Bytes.Answered.{compile-passed, compile-refused, run-passed, run-refused}
+use Rattle.rules.proofs.Bytes.Instructions.{length-instructions}
+use Rattle.rules.proofs.Step.Order.{run-next, run-stuck, run-limit-next, run-limit-stuck, run-over}
+use Rattle.rules.proofs.Bytes.RefusedPlaces.{RefusesBelow, passes, refuses, compiling-below, accepted-few, running-below}
+use Rattle.rules.proofs.Step.Bounds.{Limited, step-limited}
+use Rattle.rules.proofs.Refusals.{first-none}
 
 -- ---- compiling
 

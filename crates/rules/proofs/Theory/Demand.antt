@@ -22,12 +22,12 @@ use Rattle.rules.specs.declared.Status.{Status}
 use Rattle.rules.specs.declared.End.{End}
 use Rattle.rules.specs.declared.Outcome.{Outcome}
 use Rattle.rules.specs.declared.Outcome.the-variants.{Ended}
-use Rattle.rules.proofs.Along.{Finishes, number-finishes, throw-finishes, finished, agree, met-fits}
-use Rattle.rules.proofs.Completeness.{bits, length-bits, Reads, none, bit, Comes, by, arrival, arrives}
-use Rattle.rules.proofs.Holding.{Holds, compile-holds, length-compile, codeLength-nodes}
-use Rattle.rules.proofs.Path.{Path, done}
-use Rattle.rules.proofs.Quiet.{silent-reads, empty, Quietly, quietly-gives}
-use Rattle.rules.proofs.Soundness.{Lands, number, throws, lands}
+use Rattle.rules.proofs.Theory.Along.{Finishes, number-finishes, throw-finishes, finished, agree, met-fits}
+use Rattle.rules.proofs.Theory.Completeness.{bits, length-bits, Reads, none, bit, Comes, by, arrival, arrives}
+use Rattle.rules.proofs.Theory.Holding.{Holds, compile-holds, length-compile, codeLength-nodes}
+use Rattle.rules.proofs.Theory.Path.{Path, done}
+use Rattle.rules.proofs.Theory.Quiet.{silent-reads, empty, Quietly, quietly-gives}
+use Rattle.rules.proofs.Theory.Soundness.{Lands, number, throws, lands}
 
 -- ---- a placing made of a row of bits
 

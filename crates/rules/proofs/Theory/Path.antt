@@ -19,7 +19,7 @@ use Rattle.rules.specs.declared.Status.{Status}
 use Rattle.rules.specs.declared.Instruction.{Instruction}
 use Rattle.rules.specs.declared.Item.{Item}
 use Rattle.rules.specs.declared.Item.the-variants.{Number, Handler, Saved}
-use Rattle.rules.proofs.Order.{running, unwinding, Has, step-cut, step-carried}
+use Rattle.rules.proofs.Step.Order.{running, unwinding, Has, step-cut, step-carried}
 
 module _ (code : List Instruction) (asks : Placing) (room : ℕ) where
   pub record Goes (s u : State) : Type 0 where

@@ -22,8 +22,8 @@ use Rattle.rules.specs.declared.Instruction.the-variants.{Push, Throw, A
 use Rattle.rules.specs.declared.Item.{Item}
 use Rattle.rules.specs.declared.Item.the-variants.{Number, Handler, Saved}
 use Rattle.rules.specs.declared.Status.{Status}
-use Rattle.rules.proofs.Order.{run-limit-next, run-limit-stuck}
-use Rattle.rules.proofs.Ways.{either, with-number, with-handler, with-saved}
+use Rattle.rules.proofs.Step.Order.{run-limit-next, run-limit-stuck}
+use Rattle.rules.proofs.Step.Ways.{either, with-number, with-handler, with-saved}
 
 pub record CountsOne (s next : State) : Type 0 where
   pub steps : next .steps ≡ s .steps + 1

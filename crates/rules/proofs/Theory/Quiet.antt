@@ -16,7 +16,7 @@ use Rattle.rules.specs.declared.Status.{Status}
 use Rattle.rules.specs.declared.Status.the-variants.{Blocked, Unblocked}
 use Rattle.rules.specs.declared.End.{End}
 use Rattle.rules.specs.declared.End.the-variants.{Number}
-use Rattle.rules.proofs.Completeness.{bits, resetBits, Reads, none, bit}
+use Rattle.rules.proofs.Theory.Completeness.{bits, resetBits, Reads, none, bit}
 
 pub data Silent : List Bool → Type 0 where
   empty : Silent []

@@ -31,10 +31,10 @@ use Rattle.rules.specs.declared.Instruction.{Instruction}
 use Rattle.rules.specs.declared.Instruction.the-variants.{Push, Throw, Add, Pop, Mark, Unmark, Set, Reset}
 use Rattle.rules.specs.declared.Status.{Status}
 use Rattle.rules.specs.declared.Status.the-variants.{Blocked, Unblocked}
-use Rattle.rules.proofs.CodeBytes.{length-instructionBytes, length-bytesOf}
-use Rattle.rules.proofs.Records.{word-whole}
-use Rattle.rules.proofs.Sizes.{whole}
-use Rattle.rules.proofs.Tests.{lowest-all}
+use Rattle.rules.proofs.Bytes.CodeBytes.{length-instructionBytes, length-bytesOf}
+use Rattle.rules.proofs.Bytes.Records.{word-whole}
+use Rattle.rules.proofs.Bytes.Sizes.{whole}
+use Rattle.rules.proofs.Refusals.{lowest-all}
 
 -- ---- what records can say
 

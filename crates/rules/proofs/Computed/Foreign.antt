@@ -15,7 +15,7 @@ use Rattle.rules.specs.declared.Outcome.the-variants.{Ended, Refused}
 use Rattle.rules.specs.declared.Reason.{Reason}
 use Rattle.rules.specs.declared.Reason.the-variants.{StackFull, NoRule, Steps}
 use Rattle.rules.specs.declared.Answer.{Answer}
-use Rattle.rules.proofs.Computing.{computing}
+use Rattle.rules.proofs.Computed.Computing.{computing}
 
 record Foreign : Type 0 where
   code : List Instruction

@@ -11,7 +11,7 @@ use mathlib.Core.List.{List, [], _∷_, _++_, map}
 use mathlib.Core.Path.{_≡_, refl}
 use Rattle.rules.specs.Line.{ascii, rehearsalLine}
 use Rattle.rules.specs.Rehearsed.{eight, justNine, addOverTheTop, usedTwice}
-use Rattle.rules.proofs.Computing.{computing}
+use Rattle.rules.proofs.Computed.Computing.{computing}
 
 -- "Input 01 08 00 01 00 00 00 09 00 00 00 prints exactly `number 9 steps 1 reached 1`"
 given-bytes : rehearsalLine (1 ∷ 8 ∷ 0 ∷ 1 ∷ 0 ∷ 0 ∷ 0 ∷ 9 ∷ 0 ∷ 0 ∷ 0 ∷ [])

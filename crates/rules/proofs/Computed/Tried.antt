@@ -20,7 +20,7 @@ use Rattle.rules.specs.Rehearsed.{eight, treeA}
 use Rattle.rules.specs.Running.{runAnswer, runLeaves}
 use Rattle.rules.specs.declared.Compiled.{Compiled}
 use Rattle.rules.specs.declared.Answer.{Answer}
-use Rattle.rules.proofs.Computing.{computing}
+use Rattle.rules.proofs.Computed.Computing.{computing}
 
 -- ---- sizes: 512 nodes and 1,023 instructions are taken, one more is not, nor one byte less
 

@@ -14,7 +14,7 @@ use mathlib.Core.Option.{none, some}
 use mathlib.Core.Path.{_≡_, refl, _∙_}
 use Rattle.rules.specs.Bytes.{records}
 use Rattle.rules.specs.CodeBytes.{instructionAt, instructionsBelow, instructions}
-use Rattle.rules.proofs.Lookup.{missing-past, found-seam}
+use Rattle.rules.proofs.Lists.{missing-past, found-seam}
 
 -- ---- a list with one more at its end
 

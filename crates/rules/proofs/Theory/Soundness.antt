@@ -24,9 +24,9 @@ use Rattle.rules.specs.declared.Instruction.{Instruction}
 use Rattle.rules.specs.declared.Item.{Item}
 use Rattle.rules.specs.declared.Item.the-variants.{Number, Handler, Saved}
 use Rattle.rules.specs.declared.End.{End}
-use Rattle.rules.proofs.Holding.{nodes-pos, Holds, val, throw, add, seqn, catch, block, unblock}
-use Rattle.rules.proofs.Order.{running, unwinding, Has}
-use Rattle.rules.proofs.Path.{Path, done, _▸_, _▹_, go, cut, pushes, drop, restore, handle}
+use Rattle.rules.proofs.Theory.Holding.{nodes-pos, Holds, val, throw, add, seqn, catch, block, unblock}
+use Rattle.rules.proofs.Step.Order.{running, unwinding, Has}
+use Rattle.rules.proofs.Theory.Path.{Path, done, _▸_, _▹_, go, cut, pushes, drop, restore, handle}
 
 data Struck (i : Status) (asked : Bool) : Type 0 where
   calm : cuts i asked ≡ false → Struck i asked

@@ -18,7 +18,7 @@ use Rattle.rules.specs.declared.Status.the-variants.{Blocked, Unblocked}
 use Rattle.rules.specs.declared.End.{End}
 use Rattle.rules.specs.declared.Outcome.the-variants.{Ended}
 use Rattle.rules.specs.declared.Answer.{Answer}
-use Rattle.rules.proofs.Computing.{computing}
+use Rattle.rules.proofs.Computed.Computing.{computing}
 
 record Witness : Type 0 where
   recipe : Expression

@@ -17,7 +17,7 @@ use Rattle.rules.specs.CodeBytes.{instructionRecord, instructionBytes, b
 use Rattle.rules.specs.Expression.{Expression}
 use Rattle.rules.specs.declared.Instruction.{Instruction}
 use Rattle.rules.specs.declared.Instruction.the-variants.{Push, Throw, Add, Pop, Mark, Unmark, Set, Reset}
-use Rattle.rules.proofs.Holding.{length-compile}
+use Rattle.rules.proofs.Theory.Holding.{length-compile}
 
 pub length-instructionBytes : (x : Instruction) → length (instructionBytes x) ≡ 8
 unfolding instructionBytes instructionRecord wordBytes

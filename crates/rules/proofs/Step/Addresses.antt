@@ -30,11 +30,11 @@ use Rattle.rules.specs.declared.Item.{Item}
 use Rattle.rules.specs.declared.Item.the-variants.{Number, Handler, Saved}
 use Rattle.rules.specs.declared.Reason.{Reason}
 use Rattle.rules.specs.declared.Status.{Status}
-use Rattle.rules.proofs.Instructions.{length-instructions, instruction-found}
-use Rattle.rules.proofs.Lookup.{missing-past}
-use Rattle.rules.proofs.Path.{Path, done, _▸_}
-use Rattle.rules.proofs.Tests.{unless-passed, first-none, lowest-none}
-use Rattle.rules.proofs.Ways.{either, with-number, with-handler, with-saved}
+use Rattle.rules.proofs.Bytes.Instructions.{length-instructions, instruction-found}
+use Rattle.rules.proofs.Lists.{missing-past}
+use Rattle.rules.proofs.Theory.Path.{Path, done, _▸_}
+use Rattle.rules.proofs.Refusals.{unless-passed, first-none, lowest-none}
+use Rattle.rules.proofs.Step.Ways.{either, with-number, with-handler, with-saved}
 
 -- ---- states and codes within n
 

@@ -23,8 +23,8 @@ use Rattle.rules.specs.Table.{KindRow, kindAt, nodeTest, useTest, tableT
 use Rattle.rules.specs.declared.Reason.{Reason}
 use Rattle.rules.specs.declared.Reason.the-variants.{TableSize, CodeSize}
 use Rattle.rules.specs.declared.Refusal.{Refusal}
-use Rattle.rules.proofs.Sizes.{whole-means}
-use Rattle.rules.proofs.Tests.{unless-passed, first-only, first-none, lowest-suc, lowest-kept}
+use Rattle.rules.proofs.Bytes.Sizes.{whole-means}
+use Rattle.rules.proofs.Refusals.{unless-passed, first-only, first-none, lowest-suc, lowest-kept}
 
 pub data RefusesBelow (n : ℕ) : Option Refusal → Type 0 where
   passes : RefusesBelow n none

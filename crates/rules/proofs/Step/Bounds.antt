@@ -20,8 +20,8 @@ use Rattle.rules.specs.declared.Instruction.the-variants.{Push, Throw, A
 use Rattle.rules.specs.declared.Item.{Item}
 use Rattle.rules.specs.declared.Item.the-variants.{Number, Handler, Saved}
 use Rattle.rules.specs.declared.Status.{Status}
-use Rattle.rules.proofs.Addresses.{At}
-use Rattle.rules.proofs.Ways.{either, with-number, with-handler, with-saved}
+use Rattle.rules.proofs.Step.Addresses.{At}
+use Rattle.rules.proofs.Step.Ways.{either, with-number, with-handler, with-saved}
 
 abbrev pub Limited : ℕ → State → Step → Type 0
 Limited n s (Next next) = (next .steps ≡ s .steps + 1) × (next .reached ≤ s .reached + 1)

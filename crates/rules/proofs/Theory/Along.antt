@@ -23,9 +23,9 @@ use Rattle.rules.specs.declared.Item.the-variants.{Number}
 use Rattle.rules.specs.declared.End.{End}
 use Rattle.rules.specs.declared.Outcome.{Outcome}
 use Rattle.rules.specs.declared.Outcome.the-variants.{Ended}
-use Rattle.rules.proofs.Lookup.{missing-past}
-use Rattle.rules.proofs.Order.{running, unwinding, run-next, run-over}
-use Rattle.rules.proofs.Path.{Goes, Path, done, _▸_}
+use Rattle.rules.proofs.Lists.{missing-past}
+use Rattle.rules.proofs.Step.Order.{running, unwinding, run-next, run-over}
+use Rattle.rules.proofs.Theory.Path.{Goes, Path, done, _▸_}
 
 -- ---- where a path is over
 

@@ -28,9 +28,9 @@ use Rattle.rules.specs.Table.{KindRow, kinds, kindNumbered, kindAt, node
 use Rattle.rules.specs.declared.Instruction.the-variants.{Mark, Unmark}
 use Rattle.rules.specs.declared.Node.{Node}
 use Rattle.rules.specs.declared.Status.the-variants.{Blocked, Unblocked}
-use Rattle.rules.proofs.Holding.{codeLength-pos, length-compile}
-use Rattle.rules.proofs.WrittenCode.{LaneCount, Writable, push, throw, add, pop, mark, unmark, set, reset}
-use Rattle.rules.proofs.WrittenCode.{AllWritable, done, _▸_, writable-append, instructions-bytesOf, bytesOf-passes}
+use Rattle.rules.proofs.Theory.Holding.{codeLength-pos, length-compile}
+use Rattle.rules.proofs.Bytes.WrittenCode.{LaneCount, Writable, push, throw, add, pop, mark, unmark, set, reset}
+use Rattle.rules.proofs.Bytes.WrittenCode.{AllWritable, done, _▸_, writable-append, instructions-bytesOf, bytesOf-passes}
 
 -- ---- the numbers of an expression
 

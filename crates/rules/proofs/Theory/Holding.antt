@@ -20,8 +20,8 @@ use Rattle.rules.specs.declared.Status.{Status}
 use Rattle.rules.specs.declared.Status.the-variants.{Blocked, Unblocked}
 use Rattle.rules.specs.declared.Instruction.{Instruction}
 use Rattle.rules.specs.declared.Instruction.the-variants.{Push, Pop, Mark, Unmark, Set, Reset}
-use Rattle.rules.proofs.Lookup.{found-seam}
-use Rattle.rules.proofs.Order.{Has}
+use Rattle.rules.proofs.Lists.{found-seam}
+use Rattle.rules.proofs.Step.Order.{Has}
 
 -- ---- sizes
 
