@@ -3,7 +3,6 @@
 use libc::STDOUT_FILENO;
 use rules::End;
 use rules::Outcome;
-use rules::Reason;
 
 pub(crate) fn text(bytes: &[u8]) {
     io::write_all(STDOUT_FILENO, bytes);
@@ -22,7 +21,10 @@ pub(crate) fn outcome(outcome: Outcome) {
         },
         Outcome::Refused(refusal) => {
             let reason = refusal.reason;
-            refused(refusal_number(reason), refusal.place as u64);
+            refused(
+                record::reason::number_of(reason) as u64,
+                refusal.place as u64,
+            );
         }
     }
 }
@@ -64,26 +66,5 @@ fn code_byte(byte: u8, place: usize) {
     io::print_hex(STDOUT_FILENO, byte as u64, 2);
     if place == 7 {
         text(b"\n");
-    }
-}
-
-// Document 01, "Refusal numbers".
-fn refusal_number(reason: Reason) -> u64 {
-    match reason {
-        Reason::TableSize => 1,
-        Reason::Kind => 2,
-        Reason::UnusedByte => 3,
-        Reason::Operand => 4,
-        Reason::Uses => 5,
-        Reason::CodeBuffer => 6,
-        Reason::Status => 7,
-        Reason::StackBuffer => 8,
-        Reason::CodeSize => 9,
-        Reason::Opcode => 10,
-        Reason::Field => 11,
-        Reason::Target => 12,
-        Reason::StackFull => 13,
-        Reason::NoRule => 14,
-        Reason::Steps => 15,
     }
 }

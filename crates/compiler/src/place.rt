@@ -1,9 +1,6 @@
 // One instruction, written into the lent code (document 01, "The code").
 
 use rules::Instruction;
-use rules::Status;
-ghost use mathlib.Core.Path.{_≡_};
-ghost use Rattle.rules.specs.Answers.{statusNumber};
 ghost use Rattle.compiler.specs.Walking.{Placeable, Placed};
 
 // "Byte 0 the opcode, bytes 1 to 3 zero, bytes 4 to 7 the operand, zero where none."
@@ -19,17 +16,12 @@ pub(crate) fn place(code: &mut [u8], at: usize, instruction: Instruction)
         Instruction::Pop => record::field::put(code, base, 4, 0),
         Instruction::Mark(target) => record::field::put(code, base, 5, target as u32),
         Instruction::Unmark(target) => record::field::put(code, base, 6, target as u32),
-        Instruction::Set(status) => record::field::put(code, base, 7, number_of(status)),
+        Instruction::Set(status) => record::field::put(
+            code,
+            base,
+            7,
+            record::status::number_of(status),
+        ),
         Instruction::Reset => record::field::put(code, base, 8, 0),
-    }
-}
-
-// "A status is 0, blocked, or 1, unblocked."
-fn number_of(status: Status) -> u32
-    ensures { λ r. ⌜ r ≡ statusNumber status ⌝ }
-{
-    match status {
-        Status::Blocked => 0,
-        Status::Unblocked => 1,
     }
 }

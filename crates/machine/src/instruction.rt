@@ -57,7 +57,7 @@ pub(crate) fn at(code: &[u8], a: usize) -> Instruction
         4 => Instruction::Pop,
         5 => Instruction::Mark(operand as usize),
         6 => Instruction::Unmark(operand as usize),
-        7 => Instruction::Set(super::status::numbered(operand)),
+        7 => Instruction::Set(record::status::of_number(operand)),
         8 => Instruction::Reset,
         _ => Instruction::Throw,
     }

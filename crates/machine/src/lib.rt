@@ -7,7 +7,6 @@ mod ends;
 mod instruction;
 mod item;
 mod state;
-mod status;
 mod step;
 mod steps;
 mod unwind;
@@ -41,7 +40,12 @@ pub fn run(status: u8, code: &[u8], schedule: &[u8], stack: &mut [u8]) -> Answer
     }
     match code::check(code) {
         Checked::Accepted(_) => {
-            let answer = steps::repeat(status::numbered(status as u32), code, schedule, stack);
+            let answer = steps::repeat(
+                record::status::of_number(status as u32),
+                code,
+                schedule,
+                stack,
+            );
             record::field::clear(stack, Machine::STACK_BYTES);
             answer
         }

@@ -1,6 +1,8 @@
-// Records of eight bytes in lent bytes, lane counts in 32 bits, and schedule bits: the leaves on which table, compiler,
-// evaluation and machine stand.
+// Records of eight bytes in lent bytes, lane counts in 32 bits, schedule bits, and the numbers of statuses and refusals: the
+// leaves on which all other crates stand.
 
 pub mod field;
 pub mod number;
+pub mod reason;
 pub mod schedule;
+pub mod status;

@@ -20,7 +20,7 @@ use Rattle.rules.specs.Rehearsal.{rehearse, tableLength, tooShort, rehearsal}
 
 module _ (input : List ℕ) where
   line-short : tooShort input ≡ true → refusedLine 1 0 ≡ rehearsalLine input
-  unfolding rehearsalLine rehearsal answerLine outcomeLine refusalNumber
+  unfolding rehearsalLine rehearsal answerLine outcomeLine
   line-short short = rw (short, rehearsal)
 
   pub line-under-three : length input < 3 → refusedLine 1 0 ≡ rehearsalLine input

@@ -18,12 +18,12 @@ use Rattle.rules.specs.declared.Outcome.the-variants.{Ended}
 use Rattle.rules.specs.declared.Compiled.{Compiled}
 use Rattle.rules.specs.declared.Compiled.the-variants.{Length}
 
-unfoldable pub statusNumber : Status → ℕ
+abbrev pub statusNumber : Status → ℕ
 statusNumber Blocked = 0
 statusNumber Unblocked = 1
 
 -- of a number that has passed test 7 or 11, and so is 0 or 1
-unfoldable pub statusNumbered : ℕ → Status
+abbrev pub statusNumbered : ℕ → Status
 statusNumbered zero = Blocked
 statusNumbered (suc n) = Unblocked
 

@@ -17,7 +17,7 @@ use Rattle.rules.specs.declared.Reason.{Reason}
 use Rattle.rules.specs.declared.Reason.the-variants.{TableSize, Kind, UnusedByte, Operand, Uses, CodeBuffer, Status, StackBuffer, CodeSize, Opcode, Field, Target, StackFull, NoRule, Steps}
 use Rattle.rules.specs.declared.Refusal.{Refusal}
 
-unfoldable pub refusalNumber : Reason → ℕ
+abbrev pub refusalNumber : Reason → ℕ
 refusalNumber TableSize = 1
 refusalNumber Kind = 2
 refusalNumber UnusedByte = 3

@@ -47,7 +47,6 @@ pub record Passes (table buffer : List ℕ) : Type 0 where
 
 -- no refusal has the number 0
 numbered : (reason : Reason) → 1 ≤ refusalNumber reason
-unfolding refusalNumber
 numbered TableSize = omega arith
 numbered Kind = omega arith
 numbered UnusedByte = omega arith

@@ -34,7 +34,6 @@ use Rattle.salnegris.proofs.Accepted.{Passes, few-nodes, short-code}
 -- ---- a status and its number
 
 numbered : (i : Status) → (statusNumber i < 2) × (statusNumbered (statusNumber i) ≡ i)
-unfolding statusNumber statusNumbered
 numbered Blocked = (omega arith, refl)
 numbered Unblocked = (omega arith, refl)
 
@@ -73,7 +72,7 @@ module _ {table buffer : List ℕ} (all : Passes table buffer) where
       joined-by (statusNumber i) right stack room schedule ∙ ap (ofExpression (recipe table) (asks schedule)) same
 
   pub never : (status : ℕ) (schedule stack : List ℕ) → outcomeRefusal (runAnswer status (bytesOf (codeOf table)) schedule stack .outcome) ≤ 8
-  unfolding outcomeRefusal refusalNumber
+  unfolding outcomeRefusal
   never status schedule stack = elim (decLt status 2) [
     | yes right ↦ elim (decLt (length stack) stackBytes) [
       | yes short ↦ rw (sym (stack-refused status (bytesOf (codeOf table)) schedule stack (omega arith) short .0)) (omega arith)

@@ -6,10 +6,7 @@ use rules::Answer;
 use rules::Compiled;
 use rules::End;
 use rules::Outcome;
-use rules::Reason;
-use rules::Refusal;
 ghost use mathlib.Core.Path.{_≡_};
-ghost use Rattle.rules.specs.Refusals.{refusalNumber};
 ghost use Rattle.salnegris.specs.Fields.{compiledFields, answerFields, CompiledFits, AnswerFits};
 
 pub(crate) fn of_compiled(compiled: Compiled) -> CompiledFields
@@ -24,7 +21,7 @@ pub(crate) fn of_compiled(compiled: Compiled) -> CompiledFields
         },
         Compiled::Refused(refusal) => {
             let reason = refusal.reason;
-            let number = number_of(reason);
+            let number = record::reason::number_of(reason);
             CompiledFields {
                 length: 0,
                 refusal: number,
@@ -62,7 +59,7 @@ pub(crate) fn of_answer(answer: Answer) -> AnswerFields
         },
         Outcome::Refused(r) => {
             let reason = r.reason;
-            let refusal = number_of(reason);
+            let refusal = record::reason::number_of(reason);
             AnswerFields {
                 kind: 2,
                 number: 0,
@@ -72,28 +69,5 @@ pub(crate) fn of_answer(answer: Answer) -> AnswerFields
                 reached,
             }
         }
-    }
-}
-
-// "Refusal numbers": the table's first column.
-fn number_of(reason: Reason) -> u32
-    ensures { λ r. ⌜ r ≡ refusalNumber reason ⌝ }
-{
-    match reason {
-        Reason::TableSize => 1,
-        Reason::Kind => 2,
-        Reason::UnusedByte => 3,
-        Reason::Operand => 4,
-        Reason::Uses => 5,
-        Reason::CodeBuffer => 6,
-        Reason::Status => 7,
-        Reason::StackBuffer => 8,
-        Reason::CodeSize => 9,
-        Reason::Opcode => 10,
-        Reason::Field => 11,
-        Reason::Target => 12,
-        Reason::StackFull => 13,
-        Reason::NoRule => 14,
-        Reason::Steps => 15,
     }
 }

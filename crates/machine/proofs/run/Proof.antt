@@ -31,8 +31,8 @@ check-requires c κs = search needs
 enum-told : tie.Need-enum-told
 enum-told c = search needs
 
-numbered-requires : tie.Need-numbered-requires
-numbered-requires c κs = search needs
+of-number-requires : tie.Need-of-number-requires
+of-number-requires c κs = search needs
 
 repeat-requires : tie.Need-repeat-requires
 repeat-requires c κs =
@@ -69,7 +69,7 @@ returns-3 c =
     ran (s .status) (s .code .now) (s .schedule .now) (s .stack .now) (right .if1 .left) (room .if2 .left)
     (sym (checked .check .ensures) ∙ told .enum-told .given .1) in
     let run = repeated .repeat .ensures in
-    (run .answered ∙ rw (status .numbered .ensures) answer, c .before .before .clear .ensures ∙ rw (run .beyond) leaves)
+    (run .answered ∙ rw (status .of-number .ensures) answer, c .before .before .clear .ensures ∙ rw (run .beyond) leaves)
 
 returns-4 : tie.Need-returns-4
 returns-4 c =
@@ -92,7 +92,7 @@ run-spec =
     returns-2
     check-requires
     enum-told
-    numbered-requires
+    of-number-requires
     repeat-requires
     clear-requires
     enum-known-refusal

@@ -95,7 +95,7 @@ target-fits : {n a t : ℕ} → a < t → t ≤ n → ltb a t && leb t n ≡ tru
 target-fits {n} {a} {t} above within = rw (lt-ltb a t above, le-leb t n within)
 
 says : {n a : ℕ} {x : Instruction} → n ≤ instructionLimit → Writable n a x → Says n a x (opcodeAt (instructionBytes x) 0)
-unfolding wordAt halfAt wordBytes allZero instructionBytes instructionRecord opcodes rowNumbered opcodeAt operandFits targetFits statusNumber statusNumbered
+unfolding wordAt halfAt wordBytes allZero instructionBytes instructionRecord opcodes rowNumbered opcodeAt operandFits targetFits
 says short (push {k} lane) = rw (operand-whole 1 (residue k) (residue-small k)) (ap Push lane, refl, refl)
 says short throw = (refl, refl, refl)
 says short add = (refl, refl, refl)

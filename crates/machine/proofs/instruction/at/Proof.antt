@@ -42,8 +42,8 @@ cast-t9 c = search needs
 cast-t10 : tie.Need-cast-t10
 cast-t10 c = search needs
 
-numbered-requires : tie.Need-numbered-requires
-numbered-requires c κs = search needs
+of-number-requires : tie.Need-of-number-requires
+of-number-requires c κs = search needs
 
 returns : tie.Need-returns
 unfolding opcodes rowNumbered targetOf
@@ -73,7 +73,7 @@ returns-6 c = (coded (c .before) (c .match .keys6) refl, omega (arith, c .before
 
 returns-7 : tie.Need-returns-7
 unfolding opcodes rowNumbered targetOf
-returns-7 c = (rw (c .numbered .ensures) (coded (c .before .before) (c .before .match .keys7) refl), omega arith)
+returns-7 c = (rw (c .of-number .ensures) (coded (c .before .before) (c .before .match .keys7) refl), omega arith)
 
 returns-8 : tie.Need-returns-8
 unfolding opcodes rowNumbered targetOf
@@ -102,7 +102,7 @@ at-spec =
     signed-requires
     cast-t9
     cast-t10
-    numbered-requires
+    of-number-requires
     returns
     returns-2
     returns-3

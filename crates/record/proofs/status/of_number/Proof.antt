@@ -1,0 +1,18 @@
+-- `record::status::of_number` meets its contract, for zero and for another number. Assumes nothing.
+use Prim.Native.Nat.{ℕ, zero, suc}
+use borrow.Author.Needs.{needs}
+use mathlib.Core.Path.{_≡_, refl}
+use Rattle.rules.specs.Answers.{statusNumbered}
+use Rattle.rules.specs.declared.Status.the-variants.{Unblocked}
+use Rattle.record.proofs.status.of_number.Statement.{statement}
+use Rattle.record.proofs.status.of_number.Tie as tie
+
+not-zero : (number : ℕ) → (number ≡ 0 → ⊥) → Unblocked ≡ statusNumbered number
+not-zero zero h = absurd (h refl)
+not-zero (suc n) h = refl
+
+returns-2 : tie.Need-returns-2
+returns-2 c = not-zero (c .before .args .number) (c .if1 .left)
+
+pub of-number-spec : {M : Type 1} → statement M
+of-number-spec = tie.close (tie.spec (λ c. search needs) returns-2)
