@@ -45,15 +45,4 @@ returns c =
     rw all at (at .inv .0)
 
 pub clear-spec : {M : Type 1} → statement M
-clear-spec =
-    tie.close
-    (tie.spec
-    Inv-loop
-    μ-loop
-    loop-holds
-    slice-write-bytes
-    add-k
-    loop-less
-    loop-again
-    same-length
-    returns)
+clear-spec = tie.close (tie.spec Inv-loop μ-loop loop-holds slice-write-bytes add-k loop-less loop-again same-length returns)

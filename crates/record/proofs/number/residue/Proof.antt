@@ -57,5 +57,4 @@ returns-2 : tie.Need-returns-2
 returns-2 c = rw (read-positive c) (sym (ap (ofZ w32) (positive c)) ∙ residue-ofZ (c .before .fits .n))
 
 pub residue-spec : {M : Type 1} → statement M
-residue-spec =
-    tie.close (tie.spec sub-result cast-result sub-result-2 cast-result-2 returns returns-2)
+residue-spec = tie.close (tie.spec sub-result cast-result sub-result-2 cast-result-2 returns returns-2)

@@ -21,15 +21,6 @@ rest-fits c = record { sfits = omega arith }
 upper : (c : tie.Else1) → negsuc 0 -ℤ toZ w32 (4294967295 - c .before .args .word) ≡ negsuc (4294967295 - c .before .args .word)
 upper c = rw (toZ-pos w32 (rest-fits c .sfits)) (minus-one-less-pos _)
 
-cast-result : tie.Need-cast-result
-cast-result c = search needs
-
-sub-result : tie.Need-sub-result
-sub-result c = search needs
-
-cast-result-2 : tie.Need-cast-result-2
-cast-result-2 c = search needs
-
 sub-result-2 : tie.Need-sub-result-2
 sub-result-2 c = rw (upper c) (rest-fits c)
 
@@ -45,5 +36,4 @@ returns-2 c =
     rw (upper c, toZ-ofZ (rest-fits c), upper-half) (ap negsuc same)
 
 pub signed-spec : {M : Type 1} → statement M
-signed-spec =
-    tie.close (tie.spec cast-result sub-result cast-result-2 sub-result-2 returns returns-2)
+signed-spec = tie.close (tie.spec (search needs) (search needs) (search needs) sub-result-2 returns returns-2)

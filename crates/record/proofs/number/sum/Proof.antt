@@ -11,18 +11,6 @@ use Rattle.record.proofs.Signed.{residue-sum}
 use Rattle.record.proofs.number.sum.Statement.{statement}
 use Rattle.record.proofs.number.sum.Tie as tie
 
-residue-requires : tie.Need-residue-requires
-residue-requires c κs = search needs
-
-residue-requires-2 : tie.Need-residue-requires-2
-residue-requires-2 c κs = search needs
-
-wrapping-add-u32-requires : tie.Need-wrapping-add-u32-requires
-wrapping-add-u32-requires c κs = search needs
-
-signed-requires : tie.Need-signed-requires
-signed-requires c κs = search needs
-
 returns : tie.Need-returns
 unfolding sum
 returns c =
@@ -33,11 +21,4 @@ returns c =
     toZ-ofZ fits ∙ c .signed .ensures ∙ ap signed (c .before .wrapping-add-u32 .ensures ∙ bits)
 
 pub sum-spec : {M : Type 1} → statement M
-sum-spec =
-    tie.close
-    (tie.spec
-    residue-requires
-    residue-requires-2
-    wrapping-add-u32-requires
-    signed-requires
-    returns)
+sum-spec = tie.close (tie.spec (search needs) (search needs) (search needs) (search needs) returns)
