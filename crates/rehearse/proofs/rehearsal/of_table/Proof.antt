@@ -25,18 +25,6 @@ within c =
     let made = c .before .before .before .salnegris-compile in
     rw (made .ensures .0) (omega (arith, code-fits _ (accepted c), made .kept .1 .0))
 
-slice-aggregate-salnegris-compile : tie.Need-slice-aggregate-salnegris-compile
-slice-aggregate-salnegris-compile c = search needs
-
-salnegris-compile-requires : tie.Need-salnegris-compile-requires
-salnegris-compile-requires c κs = search needs
-
-refused-requires : tie.Need-refused-requires
-refused-requires c κs = search needs
-
-same-length : tie.Need-same-length
-same-length c = search needs
-
 returns : tie.Need-returns
 unfolding compiledFields
 returns c =
@@ -47,29 +35,11 @@ returns c =
     let line = line-refused (start .status) (start .table .now) (start .schedule .now) (rw answer at (tested .if1 .taken)) in
     rw (answer, line) at (c .before .before .refused .ensures)
 
-cast-bytes : tie.Need-cast-bytes
-cast-bytes c = search needs
-
-mul-bytes : tie.Need-mul-bytes
-mul-bytes c = search needs
-
 array-share-prefix-code : tie.Need-array-share-prefix-code
 array-share-prefix-code c = within (c .before)
 
 slice-aggregate-salnegris-run : tie.Need-slice-aggregate-salnegris-run
 slice-aggregate-salnegris-run c = sym (length-take-le _ _ (within (c .before .before)))
-
-slice-aggregate-salnegris-run-2 : tie.Need-slice-aggregate-salnegris-run-2
-slice-aggregate-salnegris-run-2 c = search needs
-
-salnegris-run-requires : tie.Need-salnegris-run-requires
-salnegris-run-requires c κs = search needs
-
-answer-requires : tie.Need-answer-requires
-answer-requires c κs = search needs
-
-same-length-2 : tie.Need-same-length-2
-same-length-2 c = search needs
 
 returns-2 : tie.Need-returns-2
 unfolding compiledFields
@@ -85,19 +55,7 @@ returns-2 c =
 
 pub of-table-spec : {M : Type 1} → statement M
 of-table-spec =
-    tie.close
-    (tie.spec
-    slice-aggregate-salnegris-compile
-    salnegris-compile-requires
-    refused-requires
-    same-length
-    returns
-    cast-bytes
-    mul-bytes
-    array-share-prefix-code
-    slice-aggregate-salnegris-run
-    slice-aggregate-salnegris-run-2
-    salnegris-run-requires
-    answer-requires
-    same-length-2
-    returns-2)
+    tie.close (tie.spec
+    (search needs) (search needs) (search needs) (search needs) returns
+    (search needs) (search needs) array-share-prefix-code slice-aggregate-salnegris-run (search needs) (search needs)
+    (search needs) (search needs) returns-2)
