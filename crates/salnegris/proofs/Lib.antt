@@ -3,4 +3,3 @@ pub mod Demands
 pub mod Fits
 pub mod Inside
 pub mod Joined
-pub mod Numbered
