@@ -12,12 +12,6 @@ use Rattle.compiler.proofs.compile.Tie as tie
 checked : (c : tie.After-nodes) → checkAnswer (c .before .before .before .before .before .args .table .now) ≡ Accepted (c .nodes .given .0 .0)
 checked c = sym (c .before .before .check .ensures) ∙ c .nodes .given .1
 
-check-requires : tie.Need-check-requires
-check-requires c κs = search needs
-
-enum-known-nodes : tie.Need-enum-known-nodes
-enum-known-nodes c = search needs
-
 sub-measure : tie.Need-sub-measure
 sub-measure c = last-node _ (checked (c .before)) .0
 
@@ -36,12 +30,6 @@ sub-emit c = last-node _ (checked (c .before .before .before)) .0
 emit-requires : tie.Need-emit-requires
 emit-requires c κs = last-emittable _ (checked (c .before .before .before .before)) _ (c .before .before .measure .ensures) (c .before .if1 .left)
 
-enum-known-r : tie.Need-enum-known-r
-enum-known-r c = search needs
-
-same-length : tie.Need-same-length
-same-length c = search needs
-
 returns-2 : tie.Need-returns-2
 returns-2 c = compiled _ (checked (c .before .before .before .before .before .before .before)) _ (c .before .before .before .before .before .measure .ensures) (c .before .before .before .before .if1 .left) (c .before .before .emit .ensures)
 
@@ -50,17 +38,7 @@ returns-3 c = table-refused _ _ (sym (c .before .before .before .check .ensures)
 
 pub compile-spec : {M : Type 1} → statement M
 compile-spec =
-    tie.close
-    (tie.spec
-    check-requires
-    enum-known-nodes
-    sub-measure
-    measure-requires
-    mul-if1
-    returns
-    sub-emit
-    emit-requires
-    enum-known-r
-    same-length
-    returns-2
+    tie.close (tie.spec
+    (search needs) (search needs) sub-measure measure-requires mul-if1 returns
+    sub-emit emit-requires (search needs) (search needs) returns-2
     returns-3)

@@ -49,9 +49,6 @@ module _ (t : ℕ) where
   at-requires : emit-lts.Need-at-requires (claims t) (given t) emit.Post
   at-requires c κs = record-inside (c .before .before .pre .1 .node)
 
-  enum-known-n : emit-lts.Need-enum-known-n (claims t) (given t) emit.Post
-  enum-known-n c = search needs
-
   place-requires : emit-lts.Need-place-requires (claims t) (given t) emit.Post
   place-requires c κs =
       let arm = c .before .before in
@@ -62,9 +59,6 @@ module _ (t : ℕ) where
       let arm = c .before .before .before .before .before in
       omega (arith, here (arm .before .before) .1 .short)
 
-  enum-told : emit-lts.Need-enum-told (claims t) (given t) emit.Post
-  enum-told c = search needs
-
   place-requires-2 : emit-lts.Need-place-requires-2 (claims t) (given t) emit.Post
   place-requires-2 c κs =
       let arm = c .before in
@@ -74,9 +68,6 @@ module _ (t : ℕ) where
   add-result-2 c =
       let arm = c .before .before .before .before in
       omega (arith, here (arm .before .before) .1 .short)
-
-  enum-known-left : emit-lts.Need-enum-known-left (claims t) (given t) emit.Post
-  enum-known-left c = search needs
 
   emit-requires : emit-lts.Need-emit-requires (claims t) (given t) emit.Post
   emit-requires c κs =
@@ -104,9 +95,6 @@ module _ (t : ℕ) where
       let arm = left .before .before .before in
       omega (arith, here (arm .before .before) .1 .short, add-emitted (here (arm .before .before)) (said (arm .before .before) (arm .left .given .1)) (left .emit .ensures) (right .emit2 .ensures) (add .place3 .ensures) .after)
 
-  enum-known-left-2 : emit-lts.Need-enum-known-left-2 (claims t) (given t) emit.Post
-  enum-known-left-2 c = search needs
-
   emit-requires-3 : emit-lts.Need-emit-requires-3 (claims t) (given t) emit.Post
   emit-requires-3 c κs =
       let arm = c .before .before in
@@ -131,9 +119,6 @@ module _ (t : ℕ) where
       let left = pop .before .before .before .before in
       let arm = left .before .before .before in
       seqn-right (here (arm .before .before)) (said (arm .before .before) (arm .left2 .given .1)) (left .emit3 .ensures) (pop .place4 .ensures)
-
-  enum-known-left-3 : emit-lts.Need-enum-known-left-3 (claims t) (given t) emit.Post
-  enum-known-left-3 c = search needs
 
   add-emit-2 : emit-lts.Need-add-emit-2 (claims t) (given t) emit.Post
   add-emit-2 c =
@@ -172,9 +157,6 @@ module _ (t : ℕ) where
       let arm = left .before .before .before in
       catch-unmark (here (arm .before .before)) (said (arm .before .before) (arm .left3 .given .1)) (left .emit5 .ensures) (right .emit6 .ensures) (mark .place5 .ensures)
 
-  enum-known-left-4 : emit-lts.Need-enum-known-left-4 (claims t) (given t) emit.Post
-  enum-known-left-4 c = search needs
-
   place-requires-7 : emit-lts.Need-place-requires-7 (claims t) (given t) emit.Post
   place-requires-7 c κs =
       let arm = c .before .before in
@@ -206,9 +188,6 @@ module _ (t : ℕ) where
       let set = left .before .before .before .before in
       let arm = set .before .before .before in
       omega (arith, here (arm .before .before) .1 .short, block-emitted (said (arm .before .before) (arm .left4 .given .1)) (set .place7 .ensures) (left .emit7 .ensures) (reset .place8 .ensures) .after)
-
-  enum-known-left-5 : emit-lts.Need-enum-known-left-5 (claims t) (given t) emit.Post
-  enum-known-left-5 c = search needs
 
   place-requires-9 : emit-lts.Need-place-requires-9 (claims t) (given t) emit.Post
   place-requires-9 c κs =
@@ -320,53 +299,15 @@ module _ (t : ℕ) where
 pub +emit-spec : {M : Type 1} → statement M
 +emit-spec =
     close μ-emit λ t. emit-lts.spec (claims t) (given t) emit.Post
-    (at-requires t)
-    (enum-known-n t)
-    (place-requires t)
-    (add-result t)
-    (enum-told t)
-    (place-requires-2 t)
-    (add-result-2 t)
-    (enum-known-left t)
-    (emit-requires t)
-    (emit-requires-2 t)
-    (place-requires-3 t)
-    (add-result-3 t)
-    (enum-known-left-2 t)
-    (emit-requires-3 t)
-    (place-requires-4 t)
-    (add-emit t)
-    (emit-requires-4 t)
-    (enum-known-left-3 t)
-    (add-emit-2 t)
-    (emit-requires-5 t)
-    (add-handler t)
-    (emit-requires-6 t)
-    (place-requires-5 t)
-    (place-requires-6 t)
-    (enum-known-left-4 t)
-    (place-requires-7 t)
-    (add-emit-3 t)
-    (emit-requires-7 t)
-    (place-requires-8 t)
-    (add-result-4 t)
-    (enum-known-left-5 t)
-    (place-requires-9 t)
-    (add-emit-4 t)
-    (emit-requires-8 t)
-    (place-requires-10 t)
-    (add-result-5 t)
-    (same-length t)
-    (returns t)
-    (same-length-2 t)
-    (returns-2 t)
-    (same-length-3 t)
-    (returns-3 t)
-    (same-length-4 t)
-    (returns-4 t)
-    (same-length-5 t)
-    (returns-5 t)
-    (same-length-6 t)
-    (returns-6 t)
-    (same-length-7 t)
-    (returns-7 t)
+    (at-requires t) (search needs) (place-requires t) (add-result t) (search needs) (place-requires-2 t) (add-result-2 t)
+    (search needs) (emit-requires t) (emit-requires-2 t) (place-requires-3 t) (add-result-3 t) (search needs) (emit-requires-3 t)
+    (place-requires-4 t) (add-emit t) (emit-requires-4 t) (search needs) (add-emit-2 t) (emit-requires-5 t) (add-handler t)
+    (emit-requires-6 t) (place-requires-5 t) (place-requires-6 t) (search needs) (place-requires-7 t) (add-emit-3 t)
+    (emit-requires-7 t) (place-requires-8 t) (add-result-4 t) (search needs) (place-requires-9 t) (add-emit-4 t)
+    (emit-requires-8 t) (place-requires-10 t) (add-result-5 t) (same-length t) (returns t)
+    (same-length-2 t) (returns-2 t)
+    (same-length-3 t) (returns-3 t)
+    (same-length-4 t) (returns-4 t)
+    (same-length-5 t) (returns-5 t)
+    (same-length-6 t) (returns-6 t)
+    (same-length-7 t) (returns-7 t)

@@ -43,15 +43,6 @@ module _ (t : ℕ) where
   at-requires : measure-lts.Need-at-requires (claims t) (given t) measure.Post
   at-requires c κs = record-inside (c .before .pre .1 .node)
 
-  enum-told : measure-lts.Need-enum-told (claims t) (given t) measure.Post
-  enum-told c = search needs
-
-  enum-told-2 : measure-lts.Need-enum-told-2 (claims t) (given t) measure.Post
-  enum-told-2 c = search needs
-
-  enum-known-left : measure-lts.Need-enum-known-left (claims t) (given t) measure.Post
-  enum-known-left c = search needs
-
   measure-requires : measure-lts.Need-measure-requires (claims t) (given t) measure.Post
   measure-requires c κs =
       let arm = c .before in
@@ -73,9 +64,6 @@ module _ (t : ℕ) where
       let left = c .before in
       let arm = left .before .before in
       omega (arith, here (arm .before .before) .1 .short, add-operands (said (arm .before .before) (arm .left .given .1)) .length, left .measure .ensures, c .measure2 .ensures)
-
-  enum-known-left-2 : measure-lts.Need-enum-known-left-2 (claims t) (given t) measure.Post
-  enum-known-left-2 c = search needs
 
   measure-requires-3 : measure-lts.Need-measure-requires-3 (claims t) (given t) measure.Post
   measure-requires-3 c κs =
@@ -99,9 +87,6 @@ module _ (t : ℕ) where
       let arm = left .before .before in
       omega (arith, here (arm .before .before) .1 .short, seqn-operands (said (arm .before .before) (arm .left2 .given .1)) .length, left .measure3 .ensures, c .measure4 .ensures)
 
-  enum-known-left-3 : measure-lts.Need-enum-known-left-3 (claims t) (given t) measure.Post
-  enum-known-left-3 c = search needs
-
   measure-requires-5 : measure-lts.Need-measure-requires-5 (claims t) (given t) measure.Post
   measure-requires-5 c κs =
       let arm = c .before in
@@ -124,9 +109,6 @@ module _ (t : ℕ) where
       let arm = left .before .before in
       omega (arith, here (arm .before .before) .1 .short, catch-operands (said (arm .before .before) (arm .left3 .given .1)) .length, left .measure5 .ensures, c .measure6 .ensures)
 
-  enum-known-left-4 : measure-lts.Need-enum-known-left-4 (claims t) (given t) measure.Post
-  enum-known-left-4 c = search needs
-
   measure-requires-7 : measure-lts.Need-measure-requires-7 (claims t) (given t) measure.Post
   measure-requires-7 c κs =
       let arm = c .before in
@@ -136,9 +118,6 @@ module _ (t : ℕ) where
   add-result-7 c =
       let arm = c .before .before in
       omega (arith, here (arm .before .before) .1 .short, block-operands (said (arm .before .before) (arm .left4 .given .1)) .length, c .measure7 .ensures)
-
-  enum-known-left-5 : measure-lts.Need-enum-known-left-5 (claims t) (given t) measure.Post
-  enum-known-left-5 c = search needs
 
   measure-requires-8 : measure-lts.Need-measure-requires-8 (claims t) (given t) measure.Post
   measure-requires-8 c κs =
@@ -187,31 +166,10 @@ module _ (t : ℕ) where
 pub +measure-spec : {M : Type 1} → statement M
 +measure-spec =
     close μ-measure λ t. measure-lts.spec (claims t) (given t) measure.Post
-    (at-requires t)
-    (enum-told t)
-    (enum-told-2 t)
-    (enum-known-left t)
-    (measure-requires t)
-    (measure-requires-2 t)
-    (add-result t)
-    (add-result-2 t)
-    (enum-known-left-2 t)
-    (measure-requires-3 t)
-    (measure-requires-4 t)
-    (add-result-3 t)
-    (add-result-4 t)
-    (enum-known-left-3 t)
-    (measure-requires-5 t)
-    (measure-requires-6 t)
-    (add-result-5 t)
-    (add-result-6 t)
-    (enum-known-left-4 t)
-    (measure-requires-7 t)
-    (add-result-7 t)
-    (enum-known-left-5 t)
-    (measure-requires-8 t)
-    (add-result-8 t)
-    (returns t)
+    (at-requires t) (search needs) (search needs) (search needs) (measure-requires t) (measure-requires-2 t) (add-result t)
+    (add-result-2 t) (search needs) (measure-requires-3 t) (measure-requires-4 t) (add-result-3 t) (add-result-4 t)
+    (search needs) (measure-requires-5 t) (measure-requires-6 t) (add-result-5 t) (add-result-6 t) (search needs)
+    (measure-requires-7 t) (add-result-7 t) (search needs) (measure-requires-8 t) (add-result-8 t) (returns t)
     (returns-2 t)
     (returns-3 t)
     (returns-4 t)
