@@ -23,7 +23,8 @@ use Rattle.rules.specs.Evaluating.{evaluateAnswer}
 use Rattle.rules.specs.Evaluation.{quiet, quietAdd, quietSeqn, quietCatch}
 use Rattle.rules.specs.Number.{sum}
 use Rattle.rules.specs.Recipe.{ofNode, expressionAt}
-use Rattle.rules.specs.Table.{operandsOf}
+use Rattle.rules.specs.Checking.{checkAnswer}
+use Rattle.rules.specs.Table.{operandsOf, tableTests}
 use Rattle.rules.specs.declared.Checked.the-variants.{Accepted, Refused}
 use Rattle.rules.specs.declared.End.{End}
 use Rattle.rules.specs.declared.End.the-variants.{Number, Throw}
@@ -33,9 +34,9 @@ use Rattle.rules.specs.declared.Outcome.{Outcome}
 use Rattle.rules.specs.declared.Outcome.the-variants.{Ended}
 use Rattle.rules.specs.declared.Refusal.{Refusal}
 use Rattle.rules.proofs.Bytes.Answered.{evaluate-passed, evaluate-refused}
+use Rattle.rules.proofs.Checking.{check-accepted, check-refused}
 use Rattle.table.specs.Acceptance.{AcceptedNode, Says}
-use Rattle.table.specs.Checking.{checkAnswer}
-use Rattle.table.proofs.Acceptance.{check-passed, check-refused, node-below, one-below, both-below, last-recipe}
+use Rattle.table.proofs.Acceptance.{node-below, one-below, both-below, last-recipe}
 
 -- ---- a node and its operands
 
@@ -94,8 +95,8 @@ module _ {table : List ℕ} {j left right : ℕ} (said : Says table j (Catch lef
 -- ---- the answer
 
 module _ (table : List ℕ) where
-  pub accepted-ends : {n : ℕ} → checkAnswer table ≡ Accepted n → Ended (endAt table (n - 1)) ≡ evaluateAnswer table
-  accepted-ends e = rw (evaluate-passed table (check-passed table e .0), last-recipe table e)
+  pub accepted-ends : {n : ℕ} → checkAnswer tableTests table ≡ Accepted n → Ended (endAt table (n - 1)) ≡ evaluateAnswer table
+  accepted-ends e = rw (evaluate-passed table (check-accepted tableTests table e .0), last-recipe table e)
 
-  pub refused-answers : {r : Refusal} → checkAnswer table ≡ Refused r → Outcome.Refused r ≡ evaluateAnswer table
-  refused-answers e = rw (evaluate-refused table (check-refused table e))
+  pub refused-answers : {r : Refusal} → checkAnswer tableTests table ≡ Refused r → Outcome.Refused r ≡ evaluateAnswer table
+  refused-answers e = rw (evaluate-refused table (check-refused tableTests table e))

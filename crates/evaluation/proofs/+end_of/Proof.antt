@@ -53,7 +53,6 @@ module _ (t : ℕ) where
   enum-known-left c = search needs
 
   end-of-requires : end-of-lts.Need-end-of-requires (claims t) (given t) end-of.Post
-  unfolding operandsOf
   end-of-requires c κs =
       let arm = c .before in
       operands (arm .before .before .before .before .pre) (said (arm .before .before) (arm .left .given .1)) refl .0
@@ -70,7 +69,6 @@ module _ (t : ℕ) where
       add-left-throws (said (arm .before .before) (arm .left .given .1)) (sym (c .before .before .end-of .ensures) ∙ c .enum-told2 .given .1)
 
   end-of-requires-2 : end-of-lts.Need-end-of-requires-2 (claims t) (given t) end-of.Post
-  unfolding operandsOf
   end-of-requires-2 c κs =
       let arm = c .before .before .before .before .before in
       operands (arm .before .before .before .before .pre) (said (arm .before .before) (arm .left .given .1)) refl .1
@@ -97,7 +95,6 @@ module _ (t : ℕ) where
   enum-known-left-2 c = search needs
 
   end-of-requires-3 : end-of-lts.Need-end-of-requires-3 (claims t) (given t) end-of.Post
-  unfolding operandsOf
   end-of-requires-3 c κs =
       let arm = c .before in
       operands (arm .before .before .before .before .pre) (said (arm .before .before) (arm .left2 .given .1)) refl .0
@@ -106,7 +103,6 @@ module _ (t : ℕ) where
   enum-told-4 c = search needs
 
   end-of-requires-4 : end-of-lts.Need-end-of-requires-4 (claims t) (given t) end-of.Post
-  unfolding operandsOf
   end-of-requires-4 c κs =
       let arm = c .before .before .before .before in
       operands (arm .before .before .before .before .pre) (said (arm .before .before) (arm .left2 .given .1)) refl .1
@@ -118,7 +114,6 @@ module _ (t : ℕ) where
   enum-known-left-3 c = search needs
 
   end-of-requires-5 : end-of-lts.Need-end-of-requires-5 (claims t) (given t) end-of.Post
-  unfolding operandsOf
   end-of-requires-5 c κs =
       let arm = c .before in
       operands (arm .before .before .before .before .pre) (said (arm .before .before) (arm .left3 .given .1)) refl .0
@@ -130,7 +125,6 @@ module _ (t : ℕ) where
   enum-told-6 c = search needs
 
   end-of-requires-6 : end-of-lts.Need-end-of-requires-6 (claims t) (given t) end-of.Post
-  unfolding operandsOf
   end-of-requires-6 c κs =
       let arm = c .before .before .before .before in
       operands (arm .before .before .before .before .pre) (said (arm .before .before) (arm .left3 .given .1)) refl .1
@@ -139,7 +133,6 @@ module _ (t : ℕ) where
   enum-known-left-4 c = search needs
 
   end-of-requires-7 : end-of-lts.Need-end-of-requires-7 (claims t) (given t) end-of.Post
-  unfolding operandsOf
   end-of-requires-7 c κs =
       let arm = c .before in
       operand (arm .before .before .before .before .pre) (said (arm .before .before) (arm .left4 .given .1)) refl
@@ -148,7 +141,6 @@ module _ (t : ℕ) where
   enum-known-left-5 c = search needs
 
   end-of-requires-8 : end-of-lts.Need-end-of-requires-8 (claims t) (given t) end-of.Post
-  unfolding operandsOf
   end-of-requires-8 c κs =
       let arm = c .before in
       operand (arm .before .before .before .before .pre) (said (arm .before .before) (arm .left5 .given .1)) refl

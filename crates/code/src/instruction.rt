@@ -6,9 +6,10 @@ use rules::Refusal;
 ghost use mathlib.Core.Path.{_≡_};
 ghost use Prim.Native.Nat.{_+_, _*_, _≤_, _<_};
 ghost use lib.ListN.{length};
+ghost use Rattle.rules.specs.Code.{targetOf};
 ghost use Rattle.rules.specs.CodeBytes.{instructionAt};
 ghost use Rattle.rules.specs.Bytes.{records};
-ghost use Rattle.machine.specs.Reading.{readingAt, operandFitsAt, targetFitsAt, targetOf};
+ghost use Rattle.code.specs.Reading.{readingAt, operandFitsAt, targetFitsAt};
 
 // What reading an instruction answers: the instruction, or the refusal.
 pub enum Reading {
@@ -44,7 +45,7 @@ fn refused(reason: Reason, place: usize) -> Reading
 }
 
 // An instruction of an accepted code.
-pub(crate) fn at(code: &[u8], a: usize) -> Instruction
+pub fn at(code: &[u8], a: usize) -> Instruction
     requires { ⌜ 8 * a + 7 < length (now code) ⌝ }
     ensures { λ r. ⌜ (r ≡ instructionAt (now (code .entry)) a) × (targetOf r < 4294967296) ⌝ }
 {
@@ -65,14 +66,14 @@ pub(crate) fn at(code: &[u8], a: usize) -> Instruction
 
 // By opcode, the greatest operand that test 11 lets pass. A look at a table and no branch, since opcodes come in no order that a
 // processor could foresee.
-const MOST: [u32; 9] = [0, 4294967295, 0, 0, 0, 4294967295, 4294967295, 1, 0];
+const GREATEST: [u32; 9] = [0, 4294967295, 0, 0, 0, 4294967295, 4294967295, 1, 0];
 
 // "An absent operand not zero, or SET operand not 0 or 1."
 fn operand_fits(opcode: usize, operand: u32) -> bool
     requires { ⌜ (1 ≤ opcode) × (opcode ≤ 8) ⌝ }
     ensures { λ r. ⌜ r ≡ operandFitsAt opcode operand ⌝ }
 {
-    operand <= MOST[opcode]
+    operand <= GREATEST[opcode]
 }
 
 // "MARK or UNMARK target not above its own address, or above the length."
