@@ -7,7 +7,7 @@ use core::fmt::{self, Display, Formatter};
 #[derive(Debug, Clone, Copy, PartialEq, Eq, Hash, PartialOrd, Ord)]
 #[repr(u32)]
 #[allow(missing_docs)] // `words` says what each means
-pub enum Refusal {
+pub enum Reason {
     TableSize = 1,
     Kind = 2,
     UnusedByte = 3,
@@ -36,24 +36,24 @@ pub enum Place {
     Address,
 }
 
-impl Refusal {
+impl Reason {
     /// All of them, in the order of their numbers.
-    pub const ALL: [Refusal; 15] = [
-        Refusal::TableSize,
-        Refusal::Kind,
-        Refusal::UnusedByte,
-        Refusal::Operand,
-        Refusal::Uses,
-        Refusal::CodeBuffer,
-        Refusal::Status,
-        Refusal::StackBuffer,
-        Refusal::CodeSize,
-        Refusal::Opcode,
-        Refusal::Field,
-        Refusal::Target,
-        Refusal::StackFull,
-        Refusal::NoRule,
-        Refusal::Steps,
+    pub const ALL: [Reason; 15] = [
+        Reason::TableSize,
+        Reason::Kind,
+        Reason::UnusedByte,
+        Reason::Operand,
+        Reason::Uses,
+        Reason::CodeBuffer,
+        Reason::Status,
+        Reason::StackBuffer,
+        Reason::CodeSize,
+        Reason::Opcode,
+        Reason::Field,
+        Reason::Target,
+        Reason::StackFull,
+        Reason::NoRule,
+        Reason::Steps,
     ];
 
     /// Document 01's number.
@@ -61,14 +61,14 @@ impl Refusal {
         self as u32
     }
 
-    /// The refusal of a number, if it is one of 1 to 15.
-    pub fn numbered(number: u32) -> Option<Refusal> {
-        Refusal::ALL.into_iter().find(|refusal| refusal.number() == number)
+    /// The reason of a number, if there is one.
+    pub fn numbered(number: u32) -> Option<Reason> {
+        Reason::ALL.into_iter().find(|reason| reason.number() == number)
     }
 
     /// What its place counts.
     pub fn place(self) -> Place {
-        use Refusal::*;
+        use Reason::*;
         match self {
             TableSize | CodeBuffer | Status | StackBuffer | CodeSize | Steps => Place::Whole,
             Kind | UnusedByte | Operand | Uses => Place::Node,
@@ -78,7 +78,7 @@ impl Refusal {
 
     /// What is wrong, in words.
     pub fn words(self) -> &'static str {
-        use Refusal::*;
+        use Reason::*;
         match self {
             TableSize => "the table has no bytes, more than 4,096, or not a multiple of 8",
             Kind => "the kind is not 1 to 7",
@@ -99,26 +99,26 @@ impl Refusal {
     }
 }
 
-/// A refusal with its place.
+/// A reason with its place.
 #[derive(Debug, Clone, Copy, PartialEq, Eq, Hash)]
-pub struct Refused {
+pub struct Refusal {
     /// Why.
-    pub refusal: Refusal,
-    /// Where, counted as [`Refusal::place`] says.
+    pub reason: Reason,
+    /// Where, counted as [`Reason::place`] says.
     pub place: u32,
 }
 
 /// As in `refused 5 at node 0: a node but the last is used never, or more than once`.
-impl Display for Refused {
+impl Display for Refusal {
     fn fmt(&self, line: &mut Formatter<'_>) -> fmt::Result {
-        write!(line, "refused {}", self.refusal.number())?;
-        match self.refusal.place() {
+        write!(line, "refused {}", self.reason.number())?;
+        match self.reason.place() {
             Place::Whole => {}
             Place::Node => write!(line, " at node {}", self.place)?,
             Place::Address => write!(line, " at address {}", self.place)?,
         }
-        write!(line, ": {}", self.refusal.words())
+        write!(line, ": {}", self.reason.words())
     }
 }
 
-impl Error for Refused {}
+impl Error for Refusal {}
