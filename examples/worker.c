@@ -120,6 +120,7 @@ static const struct {
     const char *at;
     const char *words;
 } refusals[] = {
+    /* made from refusals.txt by scripts/refusals: edit it there */
     [SALNEGRIS_TABLE_SIZE] = {NULL, "the table has no bytes, more than 4,096, or not a multiple of 8, or the file ends before it does"},
     [SALNEGRIS_KIND] = {"node", "a kind that is not 1 to 7"},
     [SALNEGRIS_UNUSED_BYTE] = {"node", "byte 1, or a byte that the kind doesn't use, is not zero"},
@@ -130,11 +131,12 @@ static const struct {
     [SALNEGRIS_STACK_BUFFER] = {NULL, "the stack buffer is below 4,096 bytes"},
     [SALNEGRIS_CODE_SIZE] = {NULL, "the code has no bytes, more than 8,184, or not a multiple of 8"},
     [SALNEGRIS_OPCODE] = {"address", "an opcode that is not 1 to 8"},
-    [SALNEGRIS_FIELD] = {"address", "a field of an instruction is not zero, or a SET is of neither 0 nor 1"},
-    [SALNEGRIS_TARGET] = {"address", "a target is not above its address, or is above the length"},
+    [SALNEGRIS_FIELD] = {"address", "byte 1, 2 or 3, or an operand where there is none, is not zero, or a SET is of neither 0 nor 1"},
+    [SALNEGRIS_TARGET] = {"address", "the target of a MARK or UNMARK is not above its own address, or is above the length"},
     [SALNEGRIS_STACK_FULL] = {"address", "a push onto 512 items"},
     [SALNEGRIS_NO_RULE] = {"address", "no rule for the instruction, or at the length without exactly one number"},
     [SALNEGRIS_STEPS] = {NULL, "1,535 steps taken and not ended"},
+    /* end of what is made */
 };
 
 /* A number that a newer library adds has no words here, and is said all the same. */

@@ -66,26 +66,28 @@ enum {
 
 /* ---- refusals, and what `place` is then ---- */
 
+/* made from refusals.txt by scripts/refusals: edit it there */
 enum {
     /* of salnegris_compile, tested in this order */
-    SALNEGRIS_TABLE_SIZE = 1,  /* table bytes 0, above 4,096, or not a multiple of 8; 0 */
-    SALNEGRIS_KIND = 2,        /* kind not 1 to 7; the node */
+    SALNEGRIS_TABLE_SIZE = 1,  /* the table has no bytes, more than 4,096, or not a multiple of 8; 0 */
+    SALNEGRIS_KIND = 2,        /* a kind that is not 1 to 7; the node */
     SALNEGRIS_UNUSED_BYTE = 3, /* byte 1, or a byte that the kind doesn't use, is not zero; the node */
     SALNEGRIS_OPERAND = 4,     /* an operand is not below its node; the node */
-    SALNEGRIS_USES = 5,        /* a node but the last is an operand never, or more than once; the lowest such node */
+    SALNEGRIS_USES = 5,        /* a node but the last is used never, or more than once; the lowest such node */
     SALNEGRIS_CODE_BUFFER = 6, /* the code buffer is below 8 bytes an instruction; 0 */
     /* of salnegris_run, before it runs, tested in this order */
     SALNEGRIS_STATUS = 7,       /* the status is not 0 or 1; 0 */
     SALNEGRIS_STACK_BUFFER = 8, /* the stack buffer is below 4,096 bytes; 0 */
-    SALNEGRIS_CODE_SIZE = 9,    /* code bytes 0, above 8,184, or not a multiple of 8; 0 */
-    SALNEGRIS_OPCODE = 10,      /* opcode not 1 to 8; the address */
-    SALNEGRIS_FIELD = 11,       /* bytes 1 to 3, or an absent operand, not zero, or a SET of neither 0 nor 1; the address */
-    SALNEGRIS_TARGET = 12,      /* the target of a MARK or UNMARK is not above its address, or is above the length; the address */
+    SALNEGRIS_CODE_SIZE = 9,    /* the code has no bytes, more than 8,184, or not a multiple of 8; 0 */
+    SALNEGRIS_OPCODE = 10,      /* an opcode that is not 1 to 8; the address */
+    SALNEGRIS_FIELD = 11,       /* byte 1, 2 or 3, or an operand where there is none, is not zero, or a SET is of neither 0 nor 1; the address */
+    SALNEGRIS_TARGET = 12,      /* the target of a MARK or UNMARK is not above its own address, or is above the length; the address */
     /* of salnegris_run, while it runs; compiled code never meets these, nor 9 to 12 */
     SALNEGRIS_STACK_FULL = 13, /* a push onto 512 items; the address */
     SALNEGRIS_NO_RULE = 14,    /* no rule for the instruction, or at the length without exactly one number; the address */
     SALNEGRIS_STEPS = 15       /* 1,535 steps taken and not ended; 0 */
 };
+/* end of what is made */
 
 /* ---- answers; a field that does not apply is 0 ---- */
 

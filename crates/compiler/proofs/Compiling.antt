@@ -13,6 +13,7 @@ use lib.ListN.{length}
 use mathlib.Core.List.{List}
 use mathlib.Core.Option.{none, some}
 use mathlib.Core.Path.{_≡_, ap, sym, _∙_}
+use Rattle.rules.specs.Checking.{checkAnswer}
 use Rattle.rules.specs.Code.{codeLength}
 use Rattle.rules.specs.Compiling.{codeOf, compileTests, compileAnswer, compileLeaves}
 use Rattle.rules.specs.Recipe.{expressionAt, recipe}
@@ -24,9 +25,9 @@ use Rattle.rules.specs.declared.Compiled.the-variants.{Length, Refused}
 use Rattle.rules.specs.declared.Reason.the-variants.{CodeBuffer}
 use Rattle.rules.specs.declared.Refusal.{Refusal}
 use Rattle.rules.proofs.Bytes.Answered.{compile-passed, compile-refused}
+use Rattle.rules.proofs.Checking.{check-accepted, check-refused}
 use Rattle.rules.proofs.Refusals.{first-only, rows-passed, rows-refused}
-use Rattle.table.specs.Checking.{checkAnswer}
-use Rattle.table.proofs.Acceptance.{check-passed, check-refused, last-node, last-recipe, recipe-short}
+use Rattle.table.proofs.Acceptance.{last-node, last-recipe, recipe-short}
 use Rattle.compiler.specs.Walking.{Measurable, Emittable, Emitted}
 use Rattle.compiler.proofs.Writing.{emitted-front}
 
@@ -36,13 +37,13 @@ module _ (table code : List ℕ) where
   refused : {r : Refusal} → firstRefusal (compileTests table code) ≡ some r → (Refused r ≡ compileAnswer table code) × (code ≡ compileLeaves table code)
   refused e = let (answer, leaves) = compile-refused table code e in (sym answer, sym leaves)
 
-  pub table-refused : {r : Refusal} → checkAnswer table ≡ Checked.Refused r → (Refused r ≡ compileAnswer table code) × (code ≡ compileLeaves table code)
+  pub table-refused : {r : Refusal} → checkAnswer tableTests table ≡ Checked.Refused r → (Refused r ≡ compileAnswer table code) × (code ≡ compileLeaves table code)
   unfolding compileTests
-  table-refused e = refused (rows-refused (tableTests table) _ (check-refused table e))
+  table-refused e = refused (rows-refused (tableTests table) _ (check-refused tableTests table e))
 
 -- ---- accepted
 
-module _ (table : List ℕ) {n : ℕ} (answer : checkAnswer table ≡ Accepted n) where
+module _ (table : List ℕ) {n : ℕ} (answer : checkAnswer tableTests table ≡ Accepted n) where
   pub last-measurable : Measurable table (n - 1)
   last-measurable =
       let last = last-node table answer .1 in
@@ -57,7 +58,7 @@ module _ (table : List ℕ) {n : ℕ} (answer : checkAnswer table ≡ Accepted n
     unfolding compileTests unless
     buffer-refused short =
         refused table code
-        (rows-passed (tableTests table) _ (check-passed table answer .0)
+        (rows-passed (tableTests table) _ (check-accepted tableTests table answer .0)
         ∙ first-only _
         ∙ rw (lt-leb (8 * codeLength (recipe table)) (length code) (omega (arith, size-recipe))))
 
@@ -68,7 +69,7 @@ module _ (table : List ℕ) {n : ℕ} (answer : checkAnswer table ≡ Accepted n
       passed : firstRefusal (compileTests table code) ≡ none
       unfolding compileTests unless
       passed =
-          rows-passed (tableTests table) _ (check-passed table answer .0)
+          rows-passed (tableTests table) _ (check-accepted tableTests table answer .0)
           ∙ first-only _
           ∙ rw (le-leb (8 * codeLength (recipe table)) (length code) (omega (arith, size-recipe)))
 

@@ -61,31 +61,31 @@ module _ {table : List ℕ} {j : ℕ} {node : Node} (said : Says table j node) w
 
 module _ {table : List ℕ} {j : ℕ} where
   pub val-length : {n : ℤ} → Says table j (Val n) → codeLength (expressionAt table j) ≡ 1
-  unfolding operandsOf column
+  unfolding column
   val-length said = no-operand said refl
 
   pub throw-length : Says table j Throw → codeLength (expressionAt table j) ≡ 1
-  unfolding operandsOf column
+  unfolding column
   throw-length said = no-operand said refl
 
   pub add-operands : {left right : ℕ} → Says table j (Add left right) → Two table j left right 1
-  unfolding operandsOf column
+  unfolding column
   add-operands said = two-operands said refl
 
   pub seqn-operands : {left right : ℕ} → Says table j (Seqn left right) → Two table j left right 1
-  unfolding operandsOf column
+  unfolding column
   seqn-operands said = two-operands said refl
 
   pub catch-operands : {left right : ℕ} → Says table j (Catch left right) → Two table j left right 2
-  unfolding operandsOf column
+  unfolding column
   catch-operands said = two-operands said refl
 
   pub block-operands : {left : ℕ} → Says table j (Block left) → One table j left 2
-  unfolding operandsOf column
+  unfolding column
   block-operands said = one-operand said refl
 
   pub unblock-operands : {left : ℕ} → Says table j (Unblock left) → One table j left 2
-  unfolding operandsOf column
+  unfolding column
   unblock-operands said = one-operand said refl
 
 -- ---- measuring

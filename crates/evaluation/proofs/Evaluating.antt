@@ -9,19 +9,20 @@ use Prim.Native.Nat.{ℕ, _-_, _<_}
 use native.Mathlib.Omega.{arith}
 use mathlib.Core.List.{List, [], _∷_}
 use mathlib.Core.Path.{_≡_}
+use Rattle.rules.specs.Checking.{checkAnswer}
 use Rattle.rules.specs.Evaluating.{evaluateAnswer}
 use Rattle.rules.specs.Evaluation.{quiet}
 use Rattle.rules.specs.Recipe.{expressionAt}
-use Rattle.rules.specs.Table.{operandsOf}
+use Rattle.rules.specs.Table.{operandsOf, tableTests}
 use Rattle.rules.specs.declared.Checked.the-variants.{Accepted, Refused}
 use Rattle.rules.specs.declared.Node.{Node}
 use Rattle.rules.specs.declared.Outcome.{Outcome}
 use Rattle.rules.specs.declared.Outcome.the-variants.{Ended}
 use Rattle.rules.specs.declared.Refusal.{Refusal}
 use Rattle.rules.proofs.Bytes.Answered.{evaluate-passed, evaluate-refused}
+use Rattle.rules.proofs.Checking.{check-accepted, check-refused}
 use Rattle.table.specs.Acceptance.{AcceptedNode, Says}
-use Rattle.table.specs.Checking.{checkAnswer}
-use Rattle.table.proofs.Acceptance.{check-passed, check-refused, node-below, one-below, both-below, last-recipe}
+use Rattle.table.proofs.Acceptance.{node-below, one-below, both-below, last-recipe}
 
 -- ---- a node and its operands
 
@@ -42,8 +43,8 @@ module _ {table : List ℕ} {j t : ℕ} {node : Node} (here : (j ≡ t) × Accep
 -- ---- the answer
 
 module _ (table : List ℕ) where
-  pub accepted-ends : {n : ℕ} → checkAnswer table ≡ Accepted n → Ended (quiet (expressionAt table (n - 1))) ≡ evaluateAnswer table
-  accepted-ends e = rw (evaluate-passed table (check-passed table e .0), last-recipe table e)
+  pub accepted-ends : {n : ℕ} → checkAnswer tableTests table ≡ Accepted n → Ended (quiet (expressionAt table (n - 1))) ≡ evaluateAnswer table
+  accepted-ends e = rw (evaluate-passed table (check-accepted tableTests table e .0), last-recipe table e)
 
-  pub refused-answers : {r : Refusal} → checkAnswer table ≡ Refused r → Outcome.Refused r ≡ evaluateAnswer table
-  refused-answers e = rw (evaluate-refused table (check-refused table e))
+  pub refused-answers : {r : Refusal} → checkAnswer tableTests table ≡ Refused r → Outcome.Refused r ≡ evaluateAnswer table
+  refused-answers e = rw (evaluate-refused table (check-refused tableTests table e))

@@ -14,7 +14,7 @@ use mathlib.Core.List.{List, _++_}
 use mathlib.Core.Option.{none, some}
 use mathlib.Core.Path.{_≡_, sym, _∙_}
 use Rattle.rules.specs.Answers.{statusNumbered}
-use Rattle.rules.specs.Bytes.{records}
+use Rattle.rules.specs.Checking.{checkAnswer}
 use Rattle.rules.specs.CodeBytes.{instructions, codeTests}
 use Rattle.rules.specs.Limits.{codeLimit, stackBytes}
 use Rattle.rules.specs.Refusals.{unless, firstRefusal}
@@ -26,9 +26,9 @@ use Rattle.rules.specs.declared.Reason.the-variants.{Status, StackBuffer, CodeS
 use Rattle.rules.specs.declared.Refusal.{Refusal}
 use Rattle.rules.proofs.Bytes.Answered.{run-passed, run-refused}
 use Rattle.rules.proofs.Bytes.Sizes.{whole-means}
-use Rattle.rules.proofs.Refusals.{unless-passed, first-none, checked-accepted, checked-refused}
+use Rattle.rules.proofs.Checking.{check-accepted, check-refused}
+use Rattle.rules.proofs.Refusals.{unless-passed, first-none}
 use Rattle.machine.specs.Runs.{Runnable}
-use Rattle.machine.proofs.CodeWalk.{checkAnswer}
 
 module _ (status : ℕ) (code schedule stack : List ℕ) where
   -- the answer and the stack buffer after a refusal
@@ -52,12 +52,12 @@ module _ (status : ℕ) (code schedule stack : List ℕ) where
       unfolding runTests firstRefusal unless
       then-code = rw (lt-ltb status 2 (omega arith), le-leb stackBytes (length stack) room)
 
-      pub code-refused : {r : Refusal} → checkAnswer code ≡ Refused r → Refuses r
-      code-refused e = by-tests (then-code ∙ checked-refused (records code) (firstRefusal (codeTests code)) e)
+      pub code-refused : {r : Refusal} → checkAnswer codeTests code ≡ Refused r → Refuses r
+      code-refused e = by-tests (then-code ∙ check-refused codeTests code e)
 
-      module _ {n : ℕ} (accepted : checkAnswer code ≡ Accepted n) where
+      module _ {n : ℕ} (accepted : checkAnswer codeTests code ≡ Accepted n) where
         passed : firstRefusal (codeTests code) ≡ none
-        passed = checked-accepted (firstRefusal (codeTests code)) accepted .0
+        passed = check-accepted codeTests code accepted .0
 
         pub ran : (runs (instructions code) (asks schedule) (statusNumbered status) ≡ runAnswer status code schedule stack)
             × (replicate stackBytes 0 ++ drop stackBytes stack ≡ runLeaves status code stack)

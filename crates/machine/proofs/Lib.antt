@@ -1,9 +1,6 @@
 pub mod Answering
 pub mod AtLength
 pub mod Carrying
-pub mod CodeWalk
-pub mod InstructionTests
-pub mod Opcodes
 pub mod Removing
 pub mod Stacked
 pub mod Stepping

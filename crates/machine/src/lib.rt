@@ -2,9 +2,7 @@
 // machine" and "Refusal numbers").
 
 mod carry;
-mod code;
 mod ends;
-mod instruction;
 mod item;
 mod state;
 mod step;

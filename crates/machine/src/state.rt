@@ -18,8 +18,8 @@ pub struct Machine {
 impl Machine {
     // "A run takes at most 1,535 steps."
     pub const STEPS: usize = 1535;
-    // A code has at most 8,184 bytes, eight for each instruction.
-    pub const INSTRUCTIONS: usize = 1023;
+    // A code has at most 1,023 instructions.
+    pub const INSTRUCTIONS: usize = code::INSTRUCTIONS;
     // "The stack holds numbers, handler addresses and saved statuses, 512 items at most", in eight bytes each.
     pub const ITEMS: usize = 512;
 

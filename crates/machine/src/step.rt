@@ -1,7 +1,6 @@
 // One step of the machine, running (document 01, "One step of the machine"). A state is handed to a step by value, and the next
 // state is handed back.
 
-use super::instruction;
 use super::state::Machine;
 use rules::Instruction;
 use rules::Item;
@@ -24,7 +23,7 @@ impl Machine {
         if record::schedule::strikes(present, schedule, self.reached) {
             return Step::Next(self.onward(true, self.address, present, self.height));
         }
-        match instruction::at(code, self.address) {
+        match code::instruction::at(code, self.address) {
             Instruction::Push(n) => self.push(stack, Item::Number(n), present),
             Instruction::Throw => Step::Next(self.onward(true, self.address, present, self.height)),
             Instruction::Add => self.add(stack),

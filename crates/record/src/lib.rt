@@ -5,4 +5,5 @@ pub mod field;
 pub mod number;
 pub mod reason;
 pub mod schedule;
+pub mod size;
 pub mod status;

@@ -11,8 +11,6 @@
 --   lowest-next, lowest-found       a place passed, a place refused
 --   lowest-same                     two tests that agree at each place
 --   lowest-none, lowest-all         where it refuses nothing, no place is refused, and the other way round
---   checked-accepted, checked-refused
---                                   what a checker's answer says of the first refusal
 --
 -- Assumes nothing.
 use Prim.Native.Nat.{ℕ, zero, suc, _+_, _<_}
@@ -23,8 +21,7 @@ use mathlib.Core.Bool.{Bool, true, false}
 use mathlib.Core.List.{List, [], _∷_, _++_}
 use mathlib.Core.Option.{Option, none, some}
 use mathlib.Core.Path.{_≡_, refl, sym, _∙_}
-use Rattle.rules.specs.Refusals.{unless, firstRefusal, lowestRefusal, checkedBy}
-use Rattle.rules.specs.declared.Checked.the-variants.{Accepted, Refused}
+use Rattle.rules.specs.Refusals.{unless, firstRefusal, lowestRefusal}
 use Rattle.rules.specs.declared.Reason.{Reason}
 use Rattle.rules.specs.declared.Refusal.{Refusal}
 
@@ -128,15 +125,3 @@ module _ (test other : ℕ → Option Refusal) where
   lowest-same zero same = refl
   lowest-same (suc n) same =
       same-next n (lowestRefusal other n) refl (lowest-same n (λ j h. same j (omega arith))) (same n (omega arith))
-
--- ---- what a checker answers
-
-pub checked-accepted : {n m : ℕ} (o : Option Refusal) → checkedBy n o ≡ Accepted m → (o ≡ none) × (m ≡ n)
-unfolding checkedBy
-checked-accepted none e = (refl, cc)
-checked-accepted (some r) e = let never : _≡_ {A = ℕ} 0 1 = cc in absurd (omega arith)
-
-pub checked-refused : (n : ℕ) {r : Refusal} (o : Option Refusal) → checkedBy n o ≡ Refused r → o ≡ some r
-unfolding checkedBy
-checked-refused n none e = let never : _≡_ {A = ℕ} 0 1 = cc in absurd (omega arith)
-checked-refused n (some s) e = cc

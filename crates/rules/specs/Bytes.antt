@@ -4,7 +4,7 @@
 --   wordBytes                the four bytes of a word
 --   allZero                  the bytes of a record at these offsets are zero
 --   records                  how many records there are
---   rowNumbered              the row that a record's first byte names, in a list of rows that are numbered from 1
+--   rowNumbered, rowAt       a row of a list whose rows are numbered from 1; the row that a record's first byte names
 --   wholeRecords             the bytes are not 0, not above a size, and a multiple of 8 (tests 1 and 9)
 --
 -- Assumes nothing.
@@ -38,6 +38,9 @@ records bytes = length bytes / recordBytes
 unfoldable pub rowNumbered : {A : Type 0} → List A → ℕ → Option A
 rowNumbered rows zero = none
 rowNumbered rows (suc k) = getElem? rows k
+
+abbrev pub rowAt : {A : Type 0} → List A → List ℕ → ℕ → Option A
+rowAt rows bytes j = rowNumbered rows (byteAt bytes (recordBytes * j))
 
 unfoldable pub wholeRecords : ℕ → List ℕ → Bool
 wholeRecords most bytes = ltb 0 (length bytes) && leb (length bytes) most && eqb (length bytes % recordBytes) 0

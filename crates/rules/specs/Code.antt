@@ -2,6 +2,7 @@
 --
 --   codeLength    document 01's last column, summed over the nodes
 --   compile a e   e's instructions when the first of them stands at address a
+--   targetOf      the target of an instruction, 0 where it has none
 --
 -- Assumes nothing.
 use Prim.Native.Nat.{ℕ, _+_}
@@ -31,3 +32,13 @@ compile a (Catch x y) =
     Mark handler ∷ compile (a + 1) x ++ Unmark (handler + codeLength y) ∷ compile handler y
 compile a (Block x) = Set Blocked ∷ compile (a + 1) x ++ (Reset ∷ [])
 compile a (Unblock x) = Set Unblocked ∷ compile (a + 1) x ++ (Reset ∷ [])
+
+abbrev pub targetOf : Instruction → ℕ
+targetOf (Push n) = 0
+targetOf Instruction.Throw = 0
+targetOf Instruction.Add = 0
+targetOf Pop = 0
+targetOf (Mark t) = t
+targetOf (Unmark t) = t
+targetOf (Set i) = 0
+targetOf Reset = 0

@@ -16,7 +16,7 @@ use mathlib.Core.Bool.{Bool, true, _&&_}
 use mathlib.Core.List.{List, [], _∷_, _++_}
 use mathlib.Core.Option.{Option, none, some}
 use Rattle.rules.specs.Answers.{statusNumber, statusNumbered}
-use Rattle.rules.specs.Bytes.{byteAt, wordAt, wordBytes, allZero, records, rowNumbered, wholeRecords}
+use Rattle.rules.specs.Bytes.{wordAt, wordBytes, allZero, records, rowNumbered, rowAt, wholeRecords}
 use Rattle.rules.specs.Limits.{recordBytes, codeLimit}
 use Rattle.rules.specs.Number.{residue, signed}
 use Rattle.rules.specs.Refusals.{unless, firstRefusal, lowestRefusal}
@@ -75,7 +75,7 @@ abbrev pub opcodeNumbered : ℕ → Option OpcodeRow
 opcodeNumbered k = rowNumbered opcodes k
 
 unfoldable pub opcodeAt : List ℕ → ℕ → Option OpcodeRow
-opcodeAt code a = opcodeNumbered (byteAt code (recordBytes * a))
+opcodeAt code a = rowAt opcodes code a
 
 abbrev pub operandAt : List ℕ → ℕ → ℕ
 operandAt code a = wordAt code (recordBytes * a + 4)

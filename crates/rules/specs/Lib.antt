@@ -1,5 +1,6 @@
 pub mod Answers
 pub mod Bytes
+pub mod Checking
 pub mod Code
 pub mod CodeBytes
 pub mod Compiling

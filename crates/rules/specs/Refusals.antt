@@ -4,15 +4,12 @@
 --   unless          no refusal if a test passes, and else its reason and place
 --   firstRefusal    the refusal of a row of tests: that of the first that refuses
 --   lowestRefusal   the same for one test at each place upward
---   checkedBy       what checking n records answers, from its first refusal
 --
 -- Assumes nothing.
 use Prim.Native.Nat.{ℕ, zero, suc}
 use mathlib.Core.Bool.{Bool, true, false}
 use mathlib.Core.List.{List, [], _∷_}
 use mathlib.Core.Option.{Option, none, some}
-use Rattle.rules.specs.declared.Checked.{Checked}
-use Rattle.rules.specs.declared.Checked.the-variants.{Accepted, Refused}
 use Rattle.rules.specs.declared.Reason.{Reason}
 use Rattle.rules.specs.declared.Reason.the-variants.{TableSize, Kind, UnusedByte, Operand, Uses, CodeBuffer, Status, StackBuffer, CodeSize, Opcode, Field, Target, StackFull, NoRule, Steps}
 use Rattle.rules.specs.declared.Refusal.{Refusal}
@@ -49,9 +46,3 @@ firstRefusal (some r ∷ tests) = some r
 unfoldable pub lowestRefusal : (ℕ → Option Refusal) → ℕ → Option Refusal
 lowestRefusal test zero = none
 lowestRefusal test (suc n) = elim (lowestRefusal test n) [ none ↦ test n | some r ↦ some r ]
-
--- ---- the answer of a checker
-
-unfoldable pub checkedBy : ℕ → Option Refusal → Checked
-checkedBy n none = Accepted n
-checkedBy n (some r) = Refused r

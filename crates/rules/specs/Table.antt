@@ -15,7 +15,7 @@ use lib.Dec.{ltb, eqb}
 use mathlib.Core.Bool.{Bool, true, cond, _&&_}
 use mathlib.Core.List.{List, [], _∷_}
 use mathlib.Core.Option.{Option, none, some}
-use Rattle.rules.specs.Bytes.{byteAt, halfAt, wordAt, allZero, records, rowNumbered, wholeRecords}
+use Rattle.rules.specs.Bytes.{halfAt, wordAt, allZero, records, rowNumbered, rowAt, wholeRecords}
 use Rattle.rules.specs.Limits.{recordBytes, tableLimit}
 use Rattle.rules.specs.Number.{signed}
 use Rattle.rules.specs.Refusals.{unless, firstRefusal, lowestRefusal}
@@ -52,7 +52,7 @@ abbrev pub kindNumbered : ℕ → Option KindRow
 kindNumbered k = rowNumbered kinds k
 
 unfoldable pub kindAt : List ℕ → ℕ → Option KindRow
-kindAt table j = kindNumbered (byteAt table (recordBytes * j))
+kindAt table j = rowAt kinds table j
 
 -- ---- nodes
 
@@ -64,7 +64,7 @@ nodeOf k table base = k .node (signed (wordAt table (base + 4))) (halfAt table (
 unfoldable pub nodeAt : List ℕ → ℕ → Node
 nodeAt table j = elim (kindAt table j) [ none ↦ Throw | some k ↦ nodeOf k table (recordBytes * j) ]
 
-unfoldable pub operandsOf : Node → List ℕ
+abbrev pub operandsOf : Node → List ℕ
 operandsOf (Val n) = []
 operandsOf Throw = []
 operandsOf (Add left right) = left ∷ right ∷ []

@@ -1,8 +1,6 @@
 -- What acceptance says of a table, and what it says of the recipe that the table holds.
 --
 --   accepted        a table that passes the tests 1 to 5
---   check-passed, check-refused
---                   what `check` answers says whether it does
 --   record-inside   a node's record lies in the table
 --   says            what a node says
 --   node-below      a node below it is one too
@@ -21,22 +19,22 @@ use borrow.Author.Tests.{eqb-true}
 use lib.ListN.{length}
 use mathlib.Core.Bool.{true}
 use mathlib.Core.List.{List, [], _∷_}
-use mathlib.Core.Option.{none, some}
+use mathlib.Core.Option.{none}
 use mathlib.Core.Path.{_≡_, ap, sym, _∙_}
 use Rattle.rules.specs.Bytes.{records}
+use Rattle.rules.specs.Checking.{checkAnswer}
 use Rattle.rules.specs.Code.{codeLength}
 use Rattle.rules.specs.Expression.{nodes}
 use Rattle.rules.specs.Recipe.{expressionAt, recipe}
 use Rattle.rules.specs.Refusals.{firstRefusal}
 use Rattle.rules.specs.Table.{nodeAt, allBelow, nodeTest, useTest, tableTests}
-use Rattle.rules.specs.declared.Checked.the-variants.{Accepted, Refused}
+use Rattle.rules.specs.declared.Checked.the-variants.{Accepted}
 use Rattle.rules.specs.declared.Node.{Node}
-use Rattle.rules.specs.declared.Refusal.{Refusal}
 use Rattle.rules.proofs.Theory.Holding.{codeLength-nodes}
 use Rattle.rules.proofs.Bytes.Sizes.{whole-means}
-use Rattle.rules.proofs.Refusals.{unless-passed, first-none, lowest-none, checked-accepted, checked-refused}
+use Rattle.rules.proofs.Checking.{check-accepted}
+use Rattle.rules.proofs.Refusals.{unless-passed, first-none, lowest-none}
 use Rattle.table.specs.Acceptance.{AcceptedTable, AcceptedNode, Says}
-use Rattle.table.specs.Checking.{checkAnswer}
 use Rattle.table.specs.Column.{columnSum}
 use Rattle.table.proofs.Counting.{nodes-counted, codeLength-counted}
 use Rattle.table.proofs.Reading.{passed-below}
@@ -57,15 +55,6 @@ accepted table e =
       falling = λ j h. passed-below table j (lowest-none (nodeTest table) (records table) j h walked);
       once = λ j h. eqb-true _ _ (unless-passed _ _ _ (lowest-none (useTest table) (records table - 1) j (omega arith) (first-none _ _ last .0)));
     }
-
-module _ (table : List ℕ) where
-  pub check-passed : {n : ℕ} → checkAnswer table ≡ Accepted n → (firstRefusal (tableTests table) ≡ none) × (n ≡ records table)
-  unfolding checkAnswer
-  check-passed e = checked-accepted (firstRefusal (tableTests table)) e
-
-  pub check-refused : {r : Refusal} → checkAnswer table ≡ Refused r → firstRefusal (tableTests table) ≡ some r
-  unfolding checkAnswer
-  check-refused e = checked-refused (records table) (firstRefusal (tableTests table)) e
 
 -- ---- a node
 
@@ -94,16 +83,16 @@ both-below j left right e =
 
 -- ---- the recipe
 
-module _ (table : List ℕ) {n : ℕ} (answer : checkAnswer table ≡ Accepted n) where
+module _ (table : List ℕ) {n : ℕ} (answer : checkAnswer tableTests table ≡ Accepted n) where
   pub last-node : (1 ≤ n) × AcceptedNode table (n - 1)
   last-node =
-      let (passed, all) = check-passed table answer in
+      let (passed, all) = check-accepted tableTests table answer in
       let table-accepted = accepted table passed in
       (omega (arith, all, table-accepted .some), record { accepted = table-accepted; within = omega (arith, all, table-accepted .some) })
 
   pub last-recipe : expressionAt table (n - 1) ≡ recipe table
   unfolding recipe
-  last-recipe = ap (λ (m : ℕ). expressionAt table (m - 1)) (check-passed table answer .1)
+  last-recipe = ap (λ (m : ℕ). expressionAt table (m - 1)) (check-accepted tableTests table answer .1)
 
 module _ {table : List ℕ} (table-accepted : AcceptedTable table) where
   pub recipe-nodes : nodes (recipe table) ≡ records table

@@ -100,7 +100,7 @@ times-above i j h (k ∷ ks) below =
 -- ---- what a node adds to its operands
 
 nodes-ofNode : (f : ℕ → Expression) (node : Node) → nodes (ofNode node f) ≡ 1 + sumOver (λ k. nodes (f k)) (operandsOf node)
-unfolding nodes ofNode operandsOf sumOver
+unfolding nodes ofNode sumOver
 nodes-ofNode f (Val n) = refl
 nodes-ofNode f Throw = refl
 nodes-ofNode f (Add left right) = omega arith
@@ -110,7 +110,7 @@ nodes-ofNode f (Block left) = omega arith
 nodes-ofNode f (Unblock left) = omega arith
 
 pub codeLength-ofNode : (f : ℕ → Expression) (node : Node) → codeLength (ofNode node f) ≡ column node + sumOver (λ k. codeLength (f k)) (operandsOf node)
-unfolding codeLength ofNode operandsOf sumOver column
+unfolding codeLength ofNode sumOver column
 codeLength-ofNode f (Val n) = refl
 codeLength-ofNode f Throw = refl
 codeLength-ofNode f (Add left right) = omega arith

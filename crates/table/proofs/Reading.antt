@@ -1,33 +1,35 @@
 -- What reading a node answers, by its tests 2, 3 and 4, and what an answer says of them.
 --
+--   reads-unknown   a number that is no kind
+--   tests           the tests of a node whose kind is known, one after the other
+--   told, node-told
+--                   what an answer says of the tests, and which node it has
+--   passed-below    where the tests pass, the operands lie below
 --   below-one, below-two, below-first
 --                   test 4 on one operand, on the second of two, and on the first where it fails
---   reads-kind, reads-unused, reads-operand, reads-sound
---                   what reading answers, by the first test that refuses
---   sound-passed, refused-test
---                   what its answer says of the tests
---   passed-below    where they pass, the operands lie below
 --
 -- Assumes nothing.
 use Prim.Native.Nat.{ℕ, _*_, _≤_, _<_}
-use native.Mathlib.Omega.{arith}
 use borrow.Author.Tests.{lt-ltb, le-ltb}
 use lib.Dec.{ltb}
-use mathlib.Core.Bool.{true, false, and-true}
+use mathlib.Core.Bool.{true, and-true}
 use mathlib.Core.List.{List, [], _∷_}
 use mathlib.Core.Option.{Option, none, some}
 use mathlib.Core.Path.{_≡_, refl, sym, _∙_}
-use Rattle.rules.specs.Bytes.{byteAt, allZero}
+use Rattle.rules.specs.Bytes.{byteAt, allZero, rowNumbered}
+use Rattle.rules.specs.Limits.{recordBytes}
 use Rattle.rules.specs.Refusals.{unless, firstRefusal}
-use Rattle.rules.specs.Table.{KindRow, kindNumbered, kindAt, nodeAt, operandsOf, allBelow, nodeTest}
+use Rattle.rules.specs.Table.{KindRow, kinds, kindAt, nodeAt, operandsOf, allBelow, nodeTest}
 use Rattle.rules.specs.declared.Node.{Node}
-use Rattle.rules.specs.declared.Reason.{Reason}
-use Rattle.rules.specs.declared.Reason.the-variants.{UnusedByte, Operand}
+use Rattle.rules.specs.declared.Reason.the-variants.{Kind, UnusedByte, Operand}
 use Rattle.rules.specs.declared.Refusal.{Refusal}
-use Rattle.rules.proofs.Refusals.{first-none, unless-passed}
-use Rattle.table.specs.Checking.{readingAt, unusedZero}
+use Rattle.rules.proofs.Checking.{answer-passed, answer-refused, answer-told, TwoTests, row-passes}
+use Rattle.rules.proofs.Lists.{RowKnown}
+use Rattle.rules.proofs.Refusals.{refused-not-passed, first-none, unless-passed}
+use Rattle.table.specs.Reading.{readingAt, unusedZero}
+use Rattle.table.specs.declared.node.Reading.{Reading}
 use Rattle.table.specs.declared.node.Reading.the-variants.{Sound, Refused}
-use Rattle.table.proofs.NodeKinds.{Known, kind-at, node-of-kind}
+use Rattle.table.proofs.NodeKinds.{node-of-kind}
 
 -- ---- operands
 
@@ -44,73 +46,52 @@ module _ (k j : ℕ) where
   unfolding allBelow
   below-first i h = rw (le-ltb k j h)
 
--- ---- the tests of a node, and what reading it answers
+-- ---- the tests of a node
 
 module _ (table : List ℕ) (j : ℕ) where
-  reads-refused : {r : Refusal} → nodeTest table j ≡ some r → readingAt table j ≡ Refused r
-  unfolding readingAt
-  reads-refused e = rw (e, readingAt)
-
-  no-kind : kindAt table j ≡ none → nodeTest table j ≡ some (record { reason = Reason.Kind; place = j })
+  no-kind : kindAt table j ≡ none → nodeTest table j ≡ some (record { reason = Kind; place = j })
   unfolding nodeTest
   no-kind missing = rw (missing, nodeTest)
 
-  row-tests : {row : KindRow} → kindAt table j ≡ some row → nodeTest table j
-      ≡ firstRefusal (unless (allZero table (8 * j) (row .zeros)) UnusedByte j ∷ unless (allBelow j (operandsOf (nodeAt table j))) Operand j ∷ [])
+  row-tests : {row : KindRow} → kindAt table j ≡ some row
+      → nodeTest table j
+      ≡ firstRefusal (unless (allZero table (recordBytes * j) (row .zeros)) UnusedByte j ∷ unless (allBelow j (operandsOf (nodeAt table j))) Operand j ∷ [])
   unfolding nodeTest
   row-tests found = rw (node-of-kind table j found) (rw (found, nodeTest))
 
-module _ (table : List ℕ) (j : ℕ) {kind : ℕ} (read : kind ≡ byteAt table (8 * j)) where
-  pub reads-kind : kindNumbered kind ≡ none → readingAt table j ≡ Refused (record { reason = Reason.Kind; place = j })
-  reads-kind missing = reads-refused table j (no-kind table j (kind-at table j read refl ∙ missing))
+  module _ {kind : ℕ} (read : kind ≡ byteAt table (recordBytes * j)) where
+    pub kind-at : {row : Option KindRow} → rowNumbered kinds kind ≡ row → kindAt table j ≡ row
+    unfolding kindAt
+    kind-at e = rw (← read) e
 
-  module _ (known : Known kind) where
-    tests : nodeTest table j
-        ≡ firstRefusal (unless (unusedZero table (8 * j) kind) UnusedByte j ∷ unless (allBelow j (operandsOf (nodeAt table j))) Operand j ∷ [])
-    unfolding unusedZero
-    tests = rw (known .found, unusedZero) (row-tests table j (kind-at table j read refl ∙ known .found))
+    pub reads-unknown : rowNumbered kinds kind ≡ none → readingAt table j ≡ Refused (record { reason = Kind; place = j })
+    reads-unknown missing = answer-refused Refused (Sound (nodeAt table j)) (no-kind (kind-at missing))
 
-    pub reads-unused : unusedZero table (8 * j) kind ≡ false → readingAt table j ≡ Refused (record { reason = UnusedByte; place = j })
-    unfolding firstRefusal unless
-    reads-unused stray = reads-refused table j (tests ∙ rw stray)
+    pub tests : RowKnown kinds kind
+        → TwoTests (nodeTest table j)
+        (unusedZero table (recordBytes * j) kind) (record { reason = UnusedByte; place = j })
+        (allBelow j (operandsOf (nodeAt table j))) (record { reason = Operand; place = j })
+    tests known = record {
+      in-turn = rw (row-passes kinds (λ row. allZero table (recordBytes * j) (row .zeros)) kind (known .found)) (row-tests (kind-at (known .found)));
+    }
 
-    pub reads-operand : unusedZero table (8 * j) kind ≡ true → allBelow j (operandsOf (nodeAt table j)) ≡ false
-        → readingAt table j ≡ Refused (record { reason = Operand; place = j })
-    unfolding firstRefusal unless
-    reads-operand clean up = reads-refused table j (tests ∙ rw (clean, up))
-
-    pub reads-sound : unusedZero table (8 * j) kind ≡ true → allBelow j (operandsOf (nodeAt table j)) ≡ true
-        → readingAt table j ≡ Sound (nodeAt table j)
-    unfolding firstRefusal unless readingAt
-    reads-sound clean below =
-        let passed : nodeTest table j ≡ none = tests ∙ rw (clean, below) in
-        rw (passed, readingAt)
-
--- ---- what an answer says of the tests
-
-module _ (table : List ℕ) (j : ℕ) where
-  answer-sound : (o : Option Refusal) {node : Node} → nodeTest table j ≡ o → readingAt table j ≡ Sound node → (nodeTest table j ≡ none) × (nodeAt table j ≡ node)
-  unfolding readingAt
-  answer-sound none e answer = (e, cc (rw (e, readingAt) at answer))
-  answer-sound (some r) e answer = let never : _≡_ {A = ℕ} 0 1 = cc (rw (e, readingAt) at answer) in absurd (omega arith)
-
-  pub sound-passed : {node : Node} → readingAt table j ≡ Sound node → (nodeTest table j ≡ none) × (nodeAt table j ≡ node)
-  sound-passed = answer-sound (nodeTest table j) refl
-
-  below-by : (o : Option KindRow) → kindAt table j ≡ o → nodeTest table j ≡ none → allBelow j (operandsOf (nodeAt table j)) ≡ true
-  below-by none e passed = let never : _≡_ {A = ℕ} 0 1 = cc (no-kind table j e) in absurd (omega arith)
+  below-by : (row : Option KindRow) → kindAt table j ≡ row → nodeTest table j ≡ none → allBelow j (operandsOf (nodeAt table j)) ≡ true
+  below-by none e passed = refused-not-passed (sym (no-kind e) ∙ passed)
   below-by (some row) e passed =
-      let (_, later) = first-none _ _ (sym (row-tests table j e) ∙ passed) in
+      let (_, later) = first-none _ _ (sym (row-tests e) ∙ passed) in
       unless-passed _ _ _ (first-none _ _ later .0)
 
-  -- test 4
   pub passed-below : nodeTest table j ≡ none → allBelow j (operandsOf (nodeAt table j)) ≡ true
   passed-below = below-by (kindAt table j) refl
 
-  answer-refused : (o : Option Refusal) {r : Refusal} → nodeTest table j ≡ o → readingAt table j ≡ Refused r → nodeTest table j ≡ some r
-  unfolding readingAt
-  answer-refused none e answer = let never : _≡_ {A = ℕ} 0 1 = cc (rw (e, readingAt) at answer) in absurd (omega arith)
-  answer-refused (some s) e answer = cc (rw (e, readingAt) at answer)
+  -- ---- what an answer says
 
-  pub refused-test : {r : Refusal} → readingAt table j ≡ Refused r → nodeTest table j ≡ some r
-  refused-test = answer-refused (nodeTest table j) refl
+  abbrev pub refusalOf : Reading → Option Refusal
+  refusalOf (Sound node) = none
+  refusalOf (Refused r) = some r
+
+  pub told : {answer : Reading} → readingAt table j ≡ answer → nodeTest table j ≡ refusalOf answer
+  told = answer-told refusalOf Refused (Sound (nodeAt table j)) (nodeTest table j) refl (λ r. refl)
+
+  pub node-told : {node : Node} → readingAt table j ≡ Sound node → nodeAt table j ≡ node
+  node-told e = cc (answer-passed Refused (Sound (nodeAt table j)) (told e), e)

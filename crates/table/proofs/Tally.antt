@@ -5,8 +5,8 @@
 --   none-counted            before the walk
 --   node-room, node-counted
 --                           one node further
---   count-wrong, counts-right
---                           what test 5 on the counts answers
+--   count-wrong, count-right
+--                           test 5 on a count
 --   counted-tests           it is test 5 on the table
 --
 -- Assumes nothing.
@@ -24,13 +24,12 @@ use mathlib.Core.Option.{none, some}
 use mathlib.Core.Path.{_≡_, refl, _∙_}
 use Rattle.rules.specs.Bytes.{records}
 use Rattle.rules.specs.Limits.{nodeLimit}
-use Rattle.rules.specs.Refusals.{unless, lowestRefusal, checkedBy}
+use Rattle.rules.specs.Refusals.{unless, lowestRefusal}
 use Rattle.rules.specs.Table.{nodeAt, operandsOf, allBelow, times, uses, useTest}
-use Rattle.rules.specs.declared.Checked.the-variants.{Accepted, Refused}
 use Rattle.rules.specs.declared.Node.{Node}
 use Rattle.rules.specs.declared.Node.the-variants.{Val, Throw, Add, Seqn, Catch, Block, Unblock}
 use Rattle.rules.specs.declared.Reason.the-variants.{Uses}
-use Rattle.rules.proofs.Refusals.{lowest-found, lowest-same}
+use Rattle.rules.proofs.Refusals.{lowest-same}
 use Rattle.table.specs.Counts.{Room, CountsUses, counted, countTest}
 use Rattle.table.proofs.Unfolding.{below-cons, below-more}
 
@@ -64,7 +63,6 @@ module _ {counts : List ℕ} {k : ℕ} {ks : List ℕ} (room : Room counts (k �
 -- ---- the walk over the nodes
 
 few-operands : (node : Node) → length (operandsOf node) ≤ 2
-unfolding operandsOf
 few-operands (Val n) = omega arith
 few-operands Throw = omega arith
 few-operands (Add left right) = omega arith
@@ -125,16 +123,14 @@ module _ {table : List ℕ} {j : ℕ} {counts : List ℕ} (so-far : CountsUses t
 
 -- ---- test 5
 
-module _ (counts : List ℕ) (n k : ℕ) (before : lowestRefusal (countTest counts) k ≡ none) where
-  pub count-wrong : k < n - 1 → (getD counts k 0 ≡ 1 → ⊥) → checkedBy n (lowestRefusal (countTest counts) (n - 1)) ≡ Refused (record { reason = Uses; place = k })
-  unfolding countTest unless checkedBy
-  count-wrong h wrong =
-      let here : countTest counts k ≡ some (record { reason = Uses; place = k }) = rw (ne-eqb (getD counts k 0) 1 wrong) in
-      rw (lowest-found (countTest counts) (n - 1) k h before here)
+module _ (counts : List ℕ) (k : ℕ) where
+  pub count-wrong : (getD counts k 0 ≡ 1 → ⊥) → countTest counts k ≡ some (record { reason = Uses; place = k })
+  unfolding countTest unless
+  count-wrong wrong = rw (ne-eqb (getD counts k 0) 1 wrong)
 
-  pub counts-right : n - 1 ≡ k → checkedBy n (lowestRefusal (countTest counts) (n - 1)) ≡ Accepted n
-  unfolding checkedBy
-  counts-right end = rw (end, before)
+  pub count-right : getD counts k 0 ≡ 1 → countTest counts k ≡ none
+  unfolding countTest unless
+  count-right right = rw (eq-eqb (getD counts k 0) 1 right)
 
 module _ {table counts : List ℕ} (all : CountsUses table (records table) counts) where
   counted-test : (k : ℕ) → k < nodeLimit → countTest counts k ≡ useTest table k

@@ -17,7 +17,8 @@ use mathlib.Core.List.{List, [], _∷_}
 use mathlib.Core.Option.{Option, none}
 use mathlib.Core.Path.{_≡_}
 use Rattle.rules.specs.Limits.{nodeLimit}
-use Rattle.rules.specs.Refusals.{unless, lowestRefusal, checkedBy}
+use Rattle.rules.specs.Checking.{checkedBy}
+use Rattle.rules.specs.Refusals.{unless, lowestRefusal}
 use Rattle.rules.specs.Table.{nodeTest, allBelow, uses}
 use Rattle.rules.specs.declared.Checked.{Checked}
 use Rattle.rules.specs.declared.Reason.the-variants.{Uses}

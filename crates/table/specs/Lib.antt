@@ -1,4 +1,4 @@
 pub mod Acceptance
-pub mod Checking
 pub mod Column
 pub mod Counts
+pub mod Reading

@@ -8,22 +8,27 @@ use rules::Checked;
 use rules::Reason;
 use rules::Refusal;
 ghost use mathlib.Core.Path.{_≡_};
-ghost use Rattle.table.specs.Checking.{checkAnswer};
+ghost use Rattle.rules.specs.Checking.{checkAnswer};
+ghost use Rattle.rules.specs.Table.{tableTests};
 ghost use Rattle.table.specs.Counts.{Countable, NodesChecked};
+
+// A table has at most 512 nodes of eight bytes each.
+const NODES: usize = 512;
+
+const BYTES: usize = 4096;
 
 // "Tests 1; then each node upward for 2, 3, 4; then 5."
 pub fn check(table: &[u8]) -> Checked
-    ensures { λ r. ⌜ r ≡ checkAnswer (now (table .entry)) ⌝ }
+    ensures { λ r. ⌜ r ≡ checkAnswer tableTests (now (table .entry)) ⌝ }
 {
-    let size = table.len();
-    if size == 0 || 4096 < size || size % 8 != 0 {
+    if !record::size::whole(table, BYTES) {
         return Checked::Refused(Refusal {
             reason: Reason::TableSize,
             place: 0,
         });
     }
-    let nodes = size / 8;
-    let mut counts = [0u16; 512];
+    let nodes = table.len() / 8;
+    let mut counts = [0u16; NODES];
     match check_nodes(table, nodes, &mut counts) {
         Checked::Accepted(_) => uses::check(&counts, nodes),
         Checked::Refused(r) => Checked::Refused(r),
@@ -38,7 +43,7 @@ fn check_nodes(table: &[u8], nodes: usize, counts: &mut [u16]) -> Checked
     let mut j: usize = 0;
     while j < nodes {
         match node::read(table, j) {
-            Reading::Sound(node) => uses::count(counts, node),
+            Reading::Sound(node) => uses::count(counts, node::operands_of(node)),
             Reading::Refused(r) => return Checked::Refused(r),
         }
         j += 1;

@@ -8,7 +8,7 @@ ghost use Prim.Native.Nat.{_+_, _*_, _<_};
 ghost use lib.Dec.{eqb};
 ghost use lib.ListN.{length};
 ghost use Rattle.rules.specs.Table.{nodeAt, operandsOf, allBelow};
-ghost use Rattle.table.specs.Checking.{readingAt, unusedZero};
+ghost use Rattle.table.specs.Reading.{readingAt, unusedZero, named};
 
 // What reading a node answers: the node, or the refusal.
 pub enum Reading {
@@ -29,7 +29,7 @@ pub(crate) fn read(table: &[u8], j: usize) -> Reading
         return refused(Reason::UnusedByte, j);
     }
     let node = at(table, j);
-    if operands_below(node, j) {
+    if below(operands_of(node), j) {
         Reading::Sound(node)
     } else {
         refused(Reason::Operand, j)
@@ -83,17 +83,34 @@ fn unused(table: &[u8], base: usize, kind: usize) -> usize
     }
 }
 
-// "An operand is a node number below the node that names it."
-fn operands_below(node: Node, j: usize) -> bool
-    ensures { λ r. ⌜ r ≡ allBelow j (operandsOf node) ⌝ }
+// The nodes that a node names: none, one or two.
+pub enum Operands {
+    None,
+    One(usize),
+    Two(usize, usize),
+}
+
+pub(crate) fn operands_of(node: Node) -> Operands
+    ensures { λ r. ⌜ named r ≡ operandsOf node ⌝ }
 {
     match node {
-        Node::Val(_) => true,
-        Node::Throw => true,
-        Node::Add(left, right) => left < j && right < j,
-        Node::Seqn(left, right) => left < j && right < j,
-        Node::Catch(left, right) => left < j && right < j,
-        Node::Block(left) => left < j,
-        Node::Unblock(left) => left < j,
+        Node::Val(_) => Operands::None,
+        Node::Throw => Operands::None,
+        Node::Add(left, right) => Operands::Two(left, right),
+        Node::Seqn(left, right) => Operands::Two(left, right),
+        Node::Catch(left, right) => Operands::Two(left, right),
+        Node::Block(left) => Operands::One(left),
+        Node::Unblock(left) => Operands::One(left),
+    }
+}
+
+// "An operand is a node number below the node that names it."
+fn below(operands: Operands, j: usize) -> bool
+    ensures { λ r. ⌜ r ≡ allBelow j (named operands) ⌝ }
+{
+    match operands {
+        Operands::None => true,
+        Operands::One(k) => k < j,
+        Operands::Two(left, right) => left < j && right < j,
     }
 }

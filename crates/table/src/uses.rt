@@ -1,39 +1,31 @@
 // How often each node is an operand, counted in a lent array, and test 5 on the counts (document 01, "The recipe table").
 
+use super::node::Operands;
 use rules::Checked;
-use rules::Node;
 use rules::Reason;
 use rules::Refusal;
 ghost use mathlib.Core.Path.{_≡_};
 ghost use Prim.Native.Nat.{_-_, _≤_};
 ghost use mathlib.Core.List.{[], _∷_};
 ghost use lib.ListN.{length};
-ghost use Rattle.rules.specs.Refusals.{lowestRefusal, checkedBy};
-ghost use Rattle.rules.specs.Table.{operandsOf};
+ghost use Rattle.rules.specs.Checking.{checkedBy};
+ghost use Rattle.rules.specs.Refusals.{lowestRefusal};
 ghost use Rattle.table.specs.Counts.{countTest, counted, Room};
+ghost use Rattle.table.specs.Reading.{named};
 
-// Each operand of the node is used once more.
-pub(crate) fn count(counts: &mut [u16], node: Node)
-    requires { ⌜ Room (now counts) (operandsOf node) ⌝ }
-    ensures { λ _. ⌜ now (counts .exit) ≡ counted (now (counts .entry)) (operandsOf node) ⌝ }
+// Each of them is used once more.
+pub(crate) fn count(counts: &mut [u16], operands: Operands)
+    requires { ⌜ Room (now counts) (named operands) ⌝ }
+    ensures { λ _. ⌜ now (counts .exit) ≡ counted (now (counts .entry)) (named operands) ⌝ }
 {
-    match node {
-        Node::Val(_) => {}
-        Node::Throw => {}
-        Node::Add(left, right) => count_both(counts, left, right),
-        Node::Seqn(left, right) => count_both(counts, left, right),
-        Node::Catch(left, right) => count_both(counts, left, right),
-        Node::Block(left) => count_one(counts, left),
-        Node::Unblock(left) => count_one(counts, left),
+    match operands {
+        Operands::None => {}
+        Operands::One(k) => count_one(counts, k),
+        Operands::Two(left, right) => {
+            count_one(counts, left);
+            count_one(counts, right);
+        }
     }
-}
-
-fn count_both(counts: &mut [u16], left: usize, right: usize)
-    requires { ⌜ Room (now counts) (left ∷ right ∷ []) ⌝ }
-    ensures { λ _. ⌜ now (counts .exit) ≡ counted (now (counts .entry)) (left ∷ right ∷ []) ⌝ }
-{
-    count_one(counts, left);
-    count_one(counts, right);
 }
 
 fn count_one(counts: &mut [u16], node: usize)

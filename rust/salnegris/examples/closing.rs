@@ -3,7 +3,7 @@
 //!
 //!     make lib && cd rust && cargo run --example closing
 
-use salnegris::{compile, run, Answer, End, Refused, Status, CODE_BYTES, RECORD_BYTES, STACK_BYTES};
+use salnegris::{compile, run, Answer, End, Refusal, Status, CODE_BYTES, RECORD_BYTES, STACK_BYTES};
 
 /// Seqn (Val 0) (Block (Add (Val 8) (Val 4))), operands first.
 const TABLE: [u8; 48] = [
@@ -15,7 +15,7 @@ const TABLE: [u8; 48] = [
     4, 0, 0, 0, 4, 0, 0, 0, // node 5: Seqn, first node 0, then node 4
 ];
 
-fn main() -> Result<(), Refused> {
+fn main() -> Result<(), Refusal> {
     let mut buffer = [0; CODE_BYTES];
     let mut stack = [0; STACK_BYTES];
     let code = compile(&TABLE, &mut buffer)?;
@@ -32,7 +32,7 @@ fn main() -> Result<(), Refused> {
 }
 
 /// What a worker does with the folder.
-fn what_happens(answer: Answer) -> Result<String, Refused> {
+fn what_happens(answer: Answer) -> Result<String, Refusal> {
     Ok(match answer.end? {
         End::Number(lanes) => format!("{lanes} lanes to base calling"),
         End::Throw => "back to the queue".to_string(),

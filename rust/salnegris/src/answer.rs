@@ -1,6 +1,6 @@
 //! Statuses, ends and the answer of a run.
 
-use crate::Refused;
+use crate::Refusal;
 
 /// The starting status of a run.
 #[derive(Debug, Clone, Copy, PartialEq, Eq, Hash)]
@@ -33,7 +33,7 @@ pub enum End {
 #[derive(Debug, Clone, Copy, PartialEq, Eq, Hash)]
 pub struct Answer {
     /// The end, or the refusal, one of 7 to 15.
-    pub end: Result<End, Refused>,
+    pub end: Result<End, Refusal>,
     /// Steps taken; up to a refusal 13 to 15 too, and 0 with the others.
     pub steps: u32,
     /// Instructions reached, carried out or cut; up to a refusal 13 to 15 too, and 0 with the others.

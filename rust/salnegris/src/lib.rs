@@ -1,7 +1,7 @@
 //! Recipes of run folders, checked, compiled and run: safe bindings over the proved library.
 //!
 //! [`compile`] turns a recipe table into code, [`run`] runs code under a schedule of recalls. Both take any bytes of any
-//! length: nothing has to be checked first, every call ends, and what is wrong with its input is said by a [`Refused`].
+//! length: nothing has to be checked first, every call ends, and what is wrong with its input is said by a [`Refusal`].
 //! Neither allocates or keeps anything between calls, so any number of threads may call them.
 //!
 //! ```
@@ -24,7 +24,7 @@
 //! let recalled = run(Status::Unblocked, code, &[0b10], &mut stack);
 //! assert_eq!(recalled.end, Ok(End::Number(0)));
 //! assert_eq!((recalled.steps, recalled.reached), (4, 3));
-//! # Ok::<(), salnegris::Refused>(())
+//! # Ok::<(), salnegris::Refusal>(())
 //! ```
 //!
 //! Compiled code, run with a [`Status`] and a stack buffer of [`STACK_BYTES`], is never refused: it ends in a number or a
@@ -41,7 +41,7 @@ mod refusal;
 pub mod sys;
 
 pub use answer::{Answer, End, Status};
-pub use refusal::{Place, Refusal, Refused};
+pub use refusal::{Place, Reason, Refusal};
 
 /// The bytes of a record: a node of a table, an instruction of a code.
 pub const RECORD_BYTES: usize = 8;
@@ -58,8 +58,8 @@ pub const STACK_BYTES: usize = 4096;
 ///
 /// # Errors
 ///
-/// The refusals 1 to 6, from [`Refusal::TableSize`] to [`Refusal::CodeBuffer`].
-pub fn compile<'c>(table: &[u8], buffer: &'c mut [u8]) -> Result<&'c [u8], Refused> {
+/// The refusals 1 to 6, from [`Reason::TableSize`] to [`Reason::CodeBuffer`].
+pub fn compile<'c>(table: &[u8], buffer: &'c mut [u8]) -> Result<&'c [u8], Refusal> {
     // SAFETY: a slice is as long as it says, its pointer is not null, and a mutable one overlaps no other.
     let compiled =
         unsafe { sys::salnegris_compile(table.as_ptr(), table.len(), buffer.as_mut_ptr(), buffer.len()) };

@@ -3,25 +3,41 @@
 use core::error::Error;
 use core::fmt::{self, Display, Formatter};
 
-/// The reasons, with document 01's numbers.
+// ---- made from refusals.txt by scripts/refusals: edit it there ----
+
+/// What is wrong with an input; each reason has its number.
 #[derive(Debug, Clone, Copy, PartialEq, Eq, Hash, PartialOrd, Ord)]
 #[repr(u32)]
-#[allow(missing_docs)] // `words` says what each means
-pub enum Refusal {
+pub enum Reason {
+    /// The table has no bytes, more than 4,096, or not a multiple of 8.
     TableSize = 1,
+    /// A kind that is not 1 to 7.
     Kind = 2,
+    /// Byte 1, or a byte that the kind doesn't use, is not zero.
     UnusedByte = 3,
+    /// An operand is not below its node.
     Operand = 4,
+    /// A node but the last is used never, or more than once.
     Uses = 5,
+    /// The code buffer is below 8 bytes an instruction.
     CodeBuffer = 6,
+    /// The status is not 0 or 1.
     Status = 7,
+    /// The stack buffer is below 4,096 bytes.
     StackBuffer = 8,
+    /// The code has no bytes, more than 8,184, or not a multiple of 8.
     CodeSize = 9,
+    /// An opcode that is not 1 to 8.
     Opcode = 10,
+    /// Byte 1, 2 or 3, or an operand where there is none, is not zero, or a SET is of neither 0 nor 1.
     Field = 11,
+    /// The target of a MARK or UNMARK is not above its own address, or is above the length.
     Target = 12,
+    /// A push onto 512 items.
     StackFull = 13,
+    /// No rule for the instruction, or at the length without exactly one number.
     NoRule = 14,
+    /// 1,535 steps taken and not ended.
     Steps = 15,
 }
 
@@ -36,89 +52,101 @@ pub enum Place {
     Address,
 }
 
-impl Refusal {
+impl Reason {
     /// All of them, in the order of their numbers.
-    pub const ALL: [Refusal; 15] = [
-        Refusal::TableSize,
-        Refusal::Kind,
-        Refusal::UnusedByte,
-        Refusal::Operand,
-        Refusal::Uses,
-        Refusal::CodeBuffer,
-        Refusal::Status,
-        Refusal::StackBuffer,
-        Refusal::CodeSize,
-        Refusal::Opcode,
-        Refusal::Field,
-        Refusal::Target,
-        Refusal::StackFull,
-        Refusal::NoRule,
-        Refusal::Steps,
+    pub const ALL: [Reason; 15] = [
+        Reason::TableSize,
+        Reason::Kind,
+        Reason::UnusedByte,
+        Reason::Operand,
+        Reason::Uses,
+        Reason::CodeBuffer,
+        Reason::Status,
+        Reason::StackBuffer,
+        Reason::CodeSize,
+        Reason::Opcode,
+        Reason::Field,
+        Reason::Target,
+        Reason::StackFull,
+        Reason::NoRule,
+        Reason::Steps,
     ];
 
-    /// Document 01's number.
+    #[rustfmt::skip]
+    fn place_and_words(self) -> (Place, &'static str) {
+        match self {
+            Reason::TableSize => (Place::Whole, "the table has no bytes, more than 4,096, or not a multiple of 8"),
+            Reason::Kind => (Place::Node, "a kind that is not 1 to 7"),
+            Reason::UnusedByte => (Place::Node, "byte 1, or a byte that the kind doesn't use, is not zero"),
+            Reason::Operand => (Place::Node, "an operand is not below its node"),
+            Reason::Uses => (Place::Node, "a node but the last is used never, or more than once"),
+            Reason::CodeBuffer => (Place::Whole, "the code buffer is below 8 bytes an instruction"),
+            Reason::Status => (Place::Whole, "the status is not 0 or 1"),
+            Reason::StackBuffer => (Place::Whole, "the stack buffer is below 4,096 bytes"),
+            Reason::CodeSize => (Place::Whole, "the code has no bytes, more than 8,184, or not a multiple of 8"),
+            Reason::Opcode => (Place::Address, "an opcode that is not 1 to 8"),
+            Reason::Field => (Place::Address, "byte 1, 2 or 3, or an operand where there is none, is not zero, or a SET is of neither 0 nor 1"),
+            Reason::Target => (Place::Address, "the target of a MARK or UNMARK is not above its own address, or is above the length"),
+            Reason::StackFull => (Place::Address, "a push onto 512 items"),
+            Reason::NoRule => (Place::Address, "no rule for the instruction, or at the length without exactly one number"),
+            Reason::Steps => (Place::Whole, "1,535 steps taken and not ended"),
+        }
+    }
+}
+
+impl Place {
+    /// The word for what it counts, as in `at node 0`.
+    pub fn word(self) -> Option<&'static str> {
+        match self {
+            Place::Whole => None,
+            Place::Node => Some("node"),
+            Place::Address => Some("address"),
+        }
+    }
+}
+
+// ---- end of what is made ----
+
+impl Reason {
+    /// Its number, as the C interface gives it.
     pub fn number(self) -> u32 {
         self as u32
     }
 
-    /// The refusal of a number, if it is one of 1 to 15.
-    pub fn numbered(number: u32) -> Option<Refusal> {
-        Refusal::ALL.into_iter().find(|refusal| refusal.number() == number)
+    /// The reason of a number, if there is one.
+    pub fn numbered(number: u32) -> Option<Reason> {
+        Reason::ALL.into_iter().find(|reason| reason.number() == number)
     }
 
     /// What its place counts.
     pub fn place(self) -> Place {
-        use Refusal::*;
-        match self {
-            TableSize | CodeBuffer | Status | StackBuffer | CodeSize | Steps => Place::Whole,
-            Kind | UnusedByte | Operand | Uses => Place::Node,
-            Opcode | Field | Target | StackFull | NoRule => Place::Address,
-        }
+        self.place_and_words().0
     }
 
     /// What is wrong, in words.
     pub fn words(self) -> &'static str {
-        use Refusal::*;
-        match self {
-            TableSize => "the table has no bytes, more than 4,096, or not a multiple of 8",
-            Kind => "the kind is not 1 to 7",
-            UnusedByte => "byte 1, or a byte that the kind doesn't use, is not zero",
-            Operand => "an operand is not below its node",
-            Uses => "a node but the last is used never, or more than once",
-            CodeBuffer => "the code buffer is below 8 bytes an instruction",
-            Status => "the status is not 0 or 1",
-            StackBuffer => "the stack buffer is below 4,096 bytes",
-            CodeSize => "the code has no bytes, more than 8,184, or not a multiple of 8",
-            Opcode => "the opcode is not 1 to 8",
-            Field => "a byte that the instruction doesn't use is not zero, or a SET has neither 0 nor 1",
-            Target => "the target of a MARK or UNMARK is not above its address, or is above the length",
-            StackFull => "a push onto 512 items",
-            NoRule => "no rule for the instruction, or at the length without exactly one number",
-            Steps => "1,535 steps taken and not ended",
-        }
+        self.place_and_words().1
     }
 }
 
-/// A refusal with its place.
+/// A reason with its place.
 #[derive(Debug, Clone, Copy, PartialEq, Eq, Hash)]
-pub struct Refused {
+pub struct Refusal {
     /// Why.
-    pub refusal: Refusal,
-    /// Where, counted as [`Refusal::place`] says.
+    pub reason: Reason,
+    /// Where, counted as [`Reason::place`] says.
     pub place: u32,
 }
 
 /// As in `refused 5 at node 0: a node but the last is used never, or more than once`.
-impl Display for Refused {
+impl Display for Refusal {
     fn fmt(&self, line: &mut Formatter<'_>) -> fmt::Result {
-        write!(line, "refused {}", self.refusal.number())?;
-        match self.refusal.place() {
-            Place::Whole => {}
-            Place::Node => write!(line, " at node {}", self.place)?,
-            Place::Address => write!(line, " at address {}", self.place)?,
+        write!(line, "refused {}", self.reason.number())?;
+        if let Some(word) = self.reason.place().word() {
+            write!(line, " at {word} {}", self.place)?;
         }
-        write!(line, ": {}", self.refusal.words())
+        write!(line, ": {}", self.reason.words())
     }
 }
 
-impl Error for Refused {}
+impl Error for Refusal {}

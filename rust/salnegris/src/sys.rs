@@ -1,6 +1,6 @@
 //! The C interface as it is (`include/salnegris.h`): all fields of an answer as numbers, 0 where they don't apply.
 
-use crate::{Answer, End, Refusal, Refused};
+use crate::{Answer, End, Reason, Refusal};
 
 /// What compiling answers.
 #[repr(C)]
@@ -63,10 +63,10 @@ impl Compiled {
     /// # Errors
     ///
     /// The refusal that the fields give.
-    pub fn length(self) -> Result<usize, Refused> {
+    pub fn length(self) -> Result<usize, Refusal> {
         match self.refusal {
             0 => Ok(self.length as usize),
-            _ => Err(refused(self.refusal, self.place)),
+            _ => Err(refusal(self.refusal, self.place)),
         }
     }
 }
@@ -78,7 +78,7 @@ impl Run {
             end: match self.kind {
                 0 => Ok(End::Number(self.number)),
                 1 => Ok(End::Throw),
-                _ => Err(refused(self.refusal, self.place)),
+                _ => Err(refusal(self.refusal, self.place)),
             },
             steps: self.steps,
             reached: self.reached,
@@ -86,10 +86,10 @@ impl Run {
     }
 }
 
-/// The library is proved to give 1 to 15 alone, so that a panic here means bindings older than the library.
-fn refused(number: u32, place: u32) -> Refused {
-    match Refusal::numbered(number) {
-        Some(refusal) => Refused { refusal, place },
+/// The library is proved to give the numbers of `Reason` alone: a panic here means bindings older than the library.
+fn refusal(number: u32, place: u32) -> Refusal {
+    match Reason::numbered(number) {
+        Some(reason) => Refusal { reason, place },
         None => panic!("refusal {number} at {place} is not known to these bindings"),
     }
 }

@@ -1,7 +1,7 @@
 //! The bindings against document 01: ends, refusals by name with their places, and the buffers.
 
 use salnegris::{
-    compile, run, Answer, End, Place, Refusal, Refused, Status, CODE_BYTES, STACK_BYTES, TABLE_BYTES,
+    compile, run, Answer, End, Place, Reason, Refusal, Status, CODE_BYTES, STACK_BYTES, TABLE_BYTES,
 };
 use std::thread;
 
@@ -9,11 +9,11 @@ const NINE: [u8; 8] = [1, 0, 0, 0, 9, 0, 0, 0];
 /// What stands in a buffer before a call.
 const FRESH: u8 = 0xa5;
 
-fn refused(refusal: Refusal, place: u32) -> Refused {
-    Refused { refusal, place }
+fn refusal(reason: Reason, place: u32) -> Refusal {
+    Refusal { reason, place }
 }
 
-fn refuses_table(table: &[u8], room: usize, wanted: Refused) {
+fn refuses_table(table: &[u8], room: usize, wanted: Refusal) {
     let mut buffer = vec![FRESH; room];
     assert_eq!(compile(table, &mut buffer), Err(wanted));
     assert_eq!(buffer, vec![FRESH; room]);
@@ -22,14 +22,14 @@ fn refuses_table(table: &[u8], room: usize, wanted: Refused) {
 fn refuses_run(status: u8, code: &[u8], room: usize, wanted: Answer) {
     let mut stack = vec![FRESH; room];
     assert_eq!(run(status, code, &[], &mut stack), wanted);
-    let untouched = wanted.end.is_err_and(|refused| refused.refusal < Refusal::StackFull);
+    let untouched = wanted.end.is_err_and(|refusal| refusal.reason < Reason::StackFull);
     let left = if untouched { vec![FRESH; room] } else { vec![0; room] };
     assert_eq!(stack, left);
 }
 
 /// Both totals are 0 before a run takes a step.
-fn at_once(refusal: Refusal, place: u32) -> Answer {
-    Answer { end: Err(refused(refusal, place)), steps: 0, reached: 0 }
+fn at_once(reason: Reason, place: u32) -> Answer {
+    Answer { end: Err(refusal(reason, place)), steps: 0, reached: 0 }
 }
 
 fn instruction(opcode: u8, operand: u8) -> [u8; 8] {
@@ -60,53 +60,54 @@ fn numbers_throws_and_totals() {
 
 #[test]
 fn refusals_of_compiling() {
-    refuses_table(&[], CODE_BYTES, refused(Refusal::TableSize, 0));
-    refuses_table(&[0; TABLE_BYTES + 8], CODE_BYTES, refused(Refusal::TableSize, 0));
-    refuses_table(&[NINE, [9; 8]].concat(), CODE_BYTES, refused(Refusal::Kind, 1));
-    refuses_table(&[NINE, [6, 1, 0, 0, 0, 0, 0, 0]].concat(), CODE_BYTES, refused(Refusal::UnusedByte, 1));
-    refuses_table(&[NINE, [6, 0, 1, 0, 0, 0, 0, 0]].concat(), CODE_BYTES, refused(Refusal::Operand, 1));
-    refuses_table(&[NINE, [3, 0, 0, 0, 0, 0, 0, 0]].concat(), CODE_BYTES, refused(Refusal::Uses, 0));
-    refuses_table(&NINE, 7, refused(Refusal::CodeBuffer, 0));
+    refuses_table(&[], CODE_BYTES, refusal(Reason::TableSize, 0));
+    refuses_table(&[0; TABLE_BYTES + 8], CODE_BYTES, refusal(Reason::TableSize, 0));
+    refuses_table(&[NINE, [9; 8]].concat(), CODE_BYTES, refusal(Reason::Kind, 1));
+    refuses_table(&[NINE, [6, 1, 0, 0, 0, 0, 0, 0]].concat(), CODE_BYTES, refusal(Reason::UnusedByte, 1));
+    refuses_table(&[NINE, [6, 0, 1, 0, 0, 0, 0, 0]].concat(), CODE_BYTES, refusal(Reason::Operand, 1));
+    refuses_table(&[NINE, [3, 0, 0, 0, 0, 0, 0, 0]].concat(), CODE_BYTES, refusal(Reason::Uses, 0));
+    refuses_table(&NINE, 7, refusal(Reason::CodeBuffer, 0));
 }
 
 #[test]
 fn refusals_before_a_run() {
-    refuses_run(2, &NINE, STACK_BYTES, at_once(Refusal::Status, 0));
-    refuses_run(1, &NINE, STACK_BYTES - 1, at_once(Refusal::StackBuffer, 0));
-    refuses_run(1, &NINE[..7], STACK_BYTES, at_once(Refusal::CodeSize, 0));
-    refuses_run(1, &[NINE, [9; 8]].concat(), STACK_BYTES, at_once(Refusal::Opcode, 1));
-    refuses_run(1, &[NINE, instruction(7, 2)].concat(), STACK_BYTES, at_once(Refusal::Field, 1));
-    refuses_run(1, &[NINE, instruction(5, 1)].concat(), STACK_BYTES, at_once(Refusal::Target, 1));
+    refuses_run(2, &NINE, STACK_BYTES, at_once(Reason::Status, 0));
+    refuses_run(1, &NINE, STACK_BYTES - 1, at_once(Reason::StackBuffer, 0));
+    refuses_run(1, &NINE[..7], STACK_BYTES, at_once(Reason::CodeSize, 0));
+    refuses_run(1, &[NINE, [9; 8]].concat(), STACK_BYTES, at_once(Reason::Opcode, 1));
+    refuses_run(1, &[NINE, instruction(7, 2)].concat(), STACK_BYTES, at_once(Reason::Field, 1));
+    refuses_run(1, &[NINE, instruction(5, 1)].concat(), STACK_BYTES, at_once(Reason::Target, 1));
 }
 
 #[test]
 fn refusals_in_a_run() {
-    let full = Answer { end: Err(refused(Refusal::StackFull, 512)), steps: 512, reached: 512 };
+    let full = Answer { end: Err(refusal(Reason::StackFull, 512)), steps: 512, reached: 512 };
     refuses_run(1, &NINE.repeat(513), STACK_BYTES, full);
-    refuses_run(1, &instruction(4, 0), STACK_BYTES, at_once(Refusal::NoRule, 0));
+    refuses_run(1, &instruction(4, 0), STACK_BYTES, at_once(Reason::NoRule, 0));
     // ten MARKs, each with the next address as target, then THROW: one MARK, then the steps of nine
     let marks: Vec<u8> = (1..=10).flat_map(|next| instruction(5, next)).chain(instruction(2, 0)).collect();
-    let limit = Answer { end: Err(refused(Refusal::Steps, 0)), steps: 1535, reached: 1024 };
+    let limit = Answer { end: Err(refusal(Reason::Steps, 0)), steps: 1535, reached: 1024 };
     refuses_run(1, &marks, STACK_BYTES, limit);
 }
 
 #[test]
-fn refusals_by_number_and_in_words() {
-    for (number, refusal) in (1..).zip(Refusal::ALL) {
-        assert_eq!(refusal.number(), number);
-        assert_eq!(Refusal::numbered(number), Some(refusal));
+fn reasons_by_number_and_in_words() {
+    for reason in Reason::ALL {
+        assert_eq!(Reason::numbered(reason.number()), Some(reason));
     }
-    assert_eq!((Refusal::numbered(0), Refusal::numbered(16)), (None, None));
-    assert_eq!(Refusal::Uses.place(), Place::Node);
+    assert!(Reason::ALL.is_sorted_by_key(|reason| reason.number()));
+    let last = Reason::ALL[Reason::ALL.len() - 1].number();
+    assert_eq!((Reason::numbered(0), Reason::numbered(last + 1)), (None, None));
+    assert_eq!((Reason::Uses.number(), Reason::Uses.place()), (5, Place::Node));
     assert_eq!(
-        refused(Refusal::Uses, 0).to_string(),
+        refusal(Reason::Uses, 0).to_string(),
         "refused 5 at node 0: a node but the last is used never, or more than once"
     );
     assert_eq!(
-        refused(Refusal::StackFull, 512).to_string(),
+        refusal(Reason::StackFull, 512).to_string(),
         "refused 13 at address 512: a push onto 512 items"
     );
-    assert_eq!(refused(Refusal::Status, 0).to_string(), "refused 7: the status is not 0 or 1");
+    assert_eq!(refusal(Reason::Status, 0).to_string(), "refused 7: the status is not 0 or 1");
 }
 
 /// 511 Blocks over a Val, in threads of the call stack that the documentation asks for.

@@ -2,14 +2,15 @@
 use native.Mathlib.Omega.{arith}
 use borrow.Author.Needs.{needs}
 use mathlib.Core.Path.{_≡_, sym, _∙_}
+use Rattle.rules.specs.Checking.{checkAnswer}
+use Rattle.rules.specs.Table.{tableTests}
 use Rattle.rules.specs.declared.Checked.the-variants.{Accepted}
-use Rattle.table.specs.Checking.{checkAnswer}
 use Rattle.table.proofs.Acceptance.{last-node}
 use Rattle.compiler.proofs.Compiling.{last-measurable, last-emittable, table-refused, buffer-refused, compiled}
 use Rattle.compiler.proofs.compile.Statement.{statement}
 use Rattle.compiler.proofs.compile.Tie as tie
 
-checked : (c : tie.After-nodes) → checkAnswer (c .before .before .before .before .before .args .table .now) ≡ Accepted (c .nodes .given .0 .0)
+checked : (c : tie.After-nodes) → checkAnswer tableTests (c .before .before .before .before .before .args .table .now) ≡ Accepted (c .nodes .given .0 .0)
 checked c = sym (c .before .before .check .ensures) ∙ c .nodes .given .1
 
 sub-measure : tie.Need-sub-measure

@@ -49,7 +49,7 @@ module _ (t : ℕ) (c : end-of-lts.After-at (claims t) (given t) end-of.Post) {n
   both = operands (c .before .before .pre) said
 
 pub +end-of-spec : {M : Type 1} → statement M
-unfolding operandsOf ofNode quiet quietAdd quietSeqn quietCatch
+unfolding ofNode quiet quietAdd quietSeqn quietCatch
 +end-of-spec =
     close μ-end-of λ t. end-of-lts.spec (claims t) (given t) end-of.Post
     (λ c κs. record-inside (c .before .pre .1)) (search needs) (search needs)

@@ -5,17 +5,11 @@ use Rattle.machine.proofs.Answering.{status-refused, stack-refused, cod
 use Rattle.machine.proofs.run.Statement.{statement}
 use Rattle.machine.proofs.run.Tie as tie
 
-refused-requires : tie.Need-refused-requires
-refused-requires c κs = search needs
-
 returns : tie.Need-returns
 returns c =
     let wrong = c .before in
     let s = wrong .before .before .before .before .args in
     rw (c .refused .ensures) (status-refused (s .status) (s .code .now) (s .schedule .now) (s .stack .now) (wrong .if1 .taken))
-
-refused-requires-2 : tie.Need-refused-requires-2
-refused-requires-2 c κs = search needs
 
 returns-2 : tie.Need-returns-2
 returns-2 c =
@@ -24,15 +18,6 @@ returns-2 c =
     let s = right .before .before .before .before .args in
     rw (c .refused2 .ensures)
     (stack-refused (s .status) (s .code .now) (s .schedule .now) (s .stack .now) (right .if1 .left) (short .if2 .taken))
-
-check-requires : tie.Need-check-requires
-check-requires c κs = search needs
-
-enum-told : tie.Need-enum-told
-enum-told c = search needs
-
-of-number-requires : tie.Need-of-number-requires
-of-number-requires c κs = search needs
 
 repeat-requires : tie.Need-repeat-requires
 repeat-requires c κs =
@@ -43,18 +28,6 @@ repeat-requires c κs =
     let s = right .before .before .before .before .args in
     runnable (s .status) (s .code .now) (s .schedule .now) (s .stack .now) (right .if1 .left) (room .if2 .left)
     (sym (checked .check .ensures) ∙ told .enum-told .given .1)
-
-clear-requires : tie.Need-clear-requires
-clear-requires c κs = search needs
-
-enum-known-refusal : tie.Need-enum-known-refusal
-enum-known-refusal c = search needs
-
-refused-requires-3 : tie.Need-refused-requires-3
-refused-requires-3 c κs = search needs
-
-same-length : tie.Need-same-length
-same-length c = search needs
 
 returns-3 : tie.Need-returns-3
 returns-3 c =
@@ -86,17 +59,12 @@ pub run-spec : {M : Type 1} → statement M
 run-spec =
     tie.close
     (tie.spec
-    refused-requires
+    (λ c κs. search needs)
     returns
-    refused-requires-2
+    (λ c κs. search needs)
     returns-2
-    check-requires
-    enum-told
-    of-number-requires
+    (λ c κs. search needs) (λ c. search needs) (λ c κs. search needs)
     repeat-requires
-    clear-requires
-    enum-known-refusal
-    refused-requires-3
-    same-length
+    (λ c κs. search needs) (λ c. search needs) (λ c κs. search needs) (λ c. search needs)
     returns-3
     returns-4)

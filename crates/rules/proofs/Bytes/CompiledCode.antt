@@ -16,11 +16,10 @@ use lib.ListN.{length}
 use mathlib.Core.List.{List}
 use mathlib.Core.Option.{Option, none, some}
 use mathlib.Core.Path.{_≡_, refl, ap}
-use Rattle.rules.specs.Bytes.{byteAt, rowNumbered}
 use Rattle.rules.specs.Code.{codeLength, compile}
 use Rattle.rules.specs.CodeBytes.{bytesOf, instructions, codeTests}
 use Rattle.rules.specs.Expression.{Expression, Val, Throw, Add, Seqn, Catch, Block, Unblock}
-use Rattle.rules.specs.Limits.{recordBytes, instructionLimit}
+use Rattle.rules.specs.Limits.{instructionLimit}
 use Rattle.rules.specs.Number.{residue, signed}
 use Rattle.rules.specs.Recipe.{ofNode, expressionWithin, expressionAt, recipe}
 use Rattle.rules.specs.Refusals.{firstRefusal}
@@ -28,9 +27,10 @@ use Rattle.rules.specs.Table.{KindRow, kinds, kindNumbered, kindAt, node
 use Rattle.rules.specs.declared.Instruction.the-variants.{Mark, Unmark}
 use Rattle.rules.specs.declared.Node.{Node}
 use Rattle.rules.specs.declared.Status.the-variants.{Blocked, Unblocked}
+use Rattle.rules.proofs.Lists.{done, _▸_, each-append, each-row}
 use Rattle.rules.proofs.Theory.Holding.{codeLength-pos, length-compile}
 use Rattle.rules.proofs.Bytes.WrittenCode.{LaneCount, Writable, push, throw, add, pop, mark, unmark, set, reset}
-use Rattle.rules.proofs.Bytes.WrittenCode.{AllWritable, done, _▸_, writable-append, instructions-bytesOf, bytesOf-passes}
+use Rattle.rules.proofs.Bytes.WrittenCode.{AllWritable, instructions-bytesOf, bytesOf-passes}
 
 -- ---- the numbers of an expression
 
@@ -77,21 +77,10 @@ NodeInRange (Node.Block left) = Unit
 NodeInRange (Node.Unblock left) = Unit
 
 -- whatever word and operands a record has, the node that its kind makes of them is in range
-abbrev Row : Option KindRow → Type 0
-Row none = Unit
-Row (some row) = (word left right : ℕ) → NodeInRange (row .node (signed word) left right)
-
-rows : (kind : ℕ) → Row (kindNumbered kind)
-unfolding kinds rowNumbered
-rows zero = tt
-rows (suc zero) = λ word left right. signed-lane-count word
-rows (suc (suc zero)) = λ word left right. tt
-rows (suc (suc (suc zero))) = λ word left right. tt
-rows (suc (suc (suc (suc zero)))) = λ word left right. tt
-rows (suc (suc (suc (suc (suc zero))))) = λ word left right. tt
-rows (suc (suc (suc (suc (suc (suc zero)))))) = λ word left right. tt
-rows (suc (suc (suc (suc (suc (suc (suc zero))))))) = λ word left right. tt
-rows (suc (suc (suc (suc (suc (suc (suc (suc k)))))))) = tt
+kind-in-range : (word left right kind : ℕ) {row : KindRow} → kindNumbered kind ≡ some row → NodeInRange (row .node (signed word) left right)
+unfolding kinds
+kind-in-range word left right =
+    each-row (λ kind row. NodeInRange (row .node (signed word) left right)) kinds (signed-lane-count word ▸ tt ▸ tt ▸ tt ▸ tt ▸ tt ▸ tt ▸ done)
 
 of-node : (node : Node) (operand : ℕ → Expression) → NodeInRange node → ((k : ℕ) → InRange (operand k)) → InRange (ofNode node operand)
 unfolding ofNode
@@ -104,16 +93,16 @@ of-node (Node.Block left) operand own below = below left
 of-node (Node.Unblock left) operand own below = below left
 
 module _ (table : List ℕ) where
-  by-row : (j : ℕ) (o : Option KindRow) → kindAt table j ≡ o → NodeInRange (nodeAt table j)
+  node-in-range : (j : ℕ) (kind : Option KindRow) → kindAt table j ≡ kind → NodeInRange (nodeAt table j)
   unfolding kindAt nodeAt nodeOf
-  by-row j none e = rw (e, nodeAt) tt
-  by-row j (some row) e = rw (e, nodeAt) ((rw e at (rows (byteAt table (recordBytes * j)))) _ _ _)
+  node-in-range j none e = rw (e, nodeAt) tt
+  node-in-range j (some row) e = rw (e, nodeAt) (kind-in-range _ _ _ _ e)
 
   within-in-range : (levels j : ℕ) → InRange (expressionWithin levels table j)
   unfolding expressionWithin
   within-in-range zero j = tt
   within-in-range (suc levels) j =
-      of-node (nodeAt table j) (expressionWithin levels table) (by-row j (kindAt table j) refl) (within-in-range levels)
+      of-node (nodeAt table j) (expressionWithin levels table) (node-in-range j (kindAt table j) refl) (within-in-range levels)
 
   pub recipe-in-range : InRange (recipe table)
   unfolding recipe expressionAt
@@ -126,12 +115,12 @@ unfolding codeLength compile
 compile-writable a (Val k) r h = push r ▸ done
 compile-writable a Throw r h = throw ▸ done
 compile-writable a (Add x y) r h =
-    writable-append refl
-    (writable-append (length-compile a x) (compile-writable a x (r .0) (omega arith))
+    each-append refl
+    (each-append (length-compile a x) (compile-writable a x (r .0) (omega arith))
     (compile-writable (a + codeLength x) y (r .1) (omega arith)))
     (add ▸ done)
 compile-writable a (Seqn x y) r h =
-    writable-append (length-compile a x) (compile-writable a x (r .0) (omega arith))
+    each-append (length-compile a x) (compile-writable a x (r .0) (omega arith))
     (pop ▸ compile-writable (a + codeLength x + 1) y (r .1) (omega arith))
 compile-writable {n} a (Catch x y) r h =
     let unmarking : ℕ = a + 1 + codeLength x in
@@ -141,9 +130,9 @@ compile-writable {n} a (Catch x y) r h =
     let first : Writable n a (Mark handler) = mark handler (omega arith) (omega arith) in
     let last : Writable n unmarking (Unmark later) = unmark later (omega arith) (omega arith) in
     let handled : AllWritable n (unmarking + 1) (compile handler y) = rw next (compile-writable handler y (r .1) (omega arith)) in
-    first ▸ writable-append (length-compile (a + 1) x) (compile-writable (a + 1) x (r .0) (omega arith)) (last ▸ handled)
-compile-writable a (Block x) r h = set Blocked ▸ writable-append refl (compile-writable (a + 1) x r (omega arith)) (reset ▸ done)
-compile-writable a (Unblock x) r h = set Unblocked ▸ writable-append refl (compile-writable (a + 1) x r (omega arith)) (reset ▸ done)
+    first ▸ each-append (length-compile (a + 1) x) (compile-writable (a + 1) x (r .0) (omega arith)) (last ▸ handled)
+compile-writable a (Block x) r h = set Blocked ▸ each-append refl (compile-writable (a + 1) x r (omega arith)) (reset ▸ done)
+compile-writable a (Unblock x) r h = set Unblocked ▸ each-append refl (compile-writable (a + 1) x r (omega arith)) (reset ▸ done)
 
 module _ (e : Expression) (r : InRange e) (short : codeLength e ≤ instructionLimit) where
   writable : AllWritable (length (compile 0 e)) 0 (compile 0 e)

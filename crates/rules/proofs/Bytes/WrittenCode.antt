@@ -4,7 +4,6 @@
 --   LaneCount              a number that 32 bits say
 --   Writable n a x         a record can say x at address a of n: its number is a lane count, its target above a and at most n
 --   AllWritable n a xs     the same of each of xs, the first of them at a
---   writable-append        one code after another
 --   instructions-bytesOf   the bytes of a writable code say the code
 --   bytesOf-passes         no test refuses them
 --
@@ -34,6 +33,7 @@ use Rattle.rules.specs.declared.Status.the-variants.{Blocked, Unblocked}
 use Rattle.rules.proofs.Bytes.CodeBytes.{length-instructionBytes, length-bytesOf}
 use Rattle.rules.proofs.Bytes.Records.{word-whole}
 use Rattle.rules.proofs.Bytes.Sizes.{whole}
+use Rattle.rules.proofs.Lists.{EachFrom, found-getD, each-found}
 use Rattle.rules.proofs.Refusals.{lowest-all}
 
 -- ---- what records can say
@@ -51,26 +51,15 @@ pub data Writable (n a : ℕ) : Instruction → Type 0 where
   set : (i : Status) → Writable n a (Set i)
   reset : Writable n a Reset
 
-infixr 40 _▸_
-pub data AllWritable (n : ℕ) : ℕ → List Instruction → Type 0 where
-  done : {a : ℕ} → AllWritable n a []
-  _▸_ : {a : ℕ} {x : Instruction} {xs : List Instruction} → Writable n a x → AllWritable n (a + 1) xs → AllWritable n a (x ∷ xs)
-
-pub writable-append : {n a k : ℕ} {xs ys : List Instruction} → length xs ≡ k
-    → AllWritable n a xs → AllWritable n (a + k) ys → AllWritable n a (xs ++ ys)
-writable-append {a = a} {k = k} e done back = let here : a + k ≡ a = omega arith in rw here at back
-writable-append {a = a} {k = k} e (_▸_ {xs = xs} w front) back =
-    let there : a + k ≡ a + 1 + length xs = omega arith in
-    w ▸ writable-append refl front (rw there at back)
+abbrev pub AllWritable : ℕ → ℕ → List Instruction → Type 0
+AllWritable n a xs = EachFrom (Writable n) a xs
 
 -- the instruction that stands at an address
 abbrev standing : List Instruction → ℕ → Instruction
 standing xs a = getD xs a Throw
 
-writable-standing : {n a : ℕ} {xs : List Instruction} (k b : ℕ) → k < length xs → a + k ≡ b → AllWritable n a xs → Writable n b (standing xs k)
-writable-standing k b inside e done = absurd (omega arith)
-writable-standing {a = a} zero b inside e (w ▸ all) = let here : b ≡ a = omega arith in rw here w
-writable-standing (suc k) b inside e (w ▸ all) = writable-standing k b (omega arith) (omega arith) all
+writable-standing : {n : ℕ} {xs : List Instruction} (a : ℕ) → a < length xs → AllWritable n 0 xs → Writable n a (standing xs a)
+writable-standing {xs = xs} a inside all = each-found all a a (omega arith) (found-getD xs a Throw inside)
 
 -- ---- one record
 
@@ -157,7 +146,7 @@ module _ (xs : List Instruction) (a : ℕ) (inside : a < length xs) where
 module _ (xs : List Instruction) (short : length xs ≤ instructionLimit) (all : AllWritable (length xs) 0 xs) where
   read-back : (a : ℕ) → a < length xs → (instructionAt (bytesOf xs) a ≡ standing xs a) × (instructionTest (bytesOf xs) a ≡ none)
   read-back a inside =
-      by-row xs a inside _ (opcode-standing xs a inside) (says short (writable-standing a a inside (omega arith) all))
+      by-row xs a inside _ (opcode-standing xs a inside) (says short (writable-standing a inside all))
 
   read-below : (n : ℕ) → n ≤ length xs → instructionsBelow (bytesOf xs) n ≡ take n xs
   unfolding instructionsBelow

@@ -16,24 +16,6 @@ tagged : (c : tie.After-byte) {tag : ℕ} → c .byte .result ≡ tag
     ≡ itemAt (c .before .before .before .args .stack .now) (c .before .before .before .args .k)
 tagged c e = item-read _ _ (sym e ∙ c .byte .ensures .0) (c .before .word .ensures)
 
-mul-base : tie.Need-mul-base
-mul-base c = search needs
-
-add-word : tie.Need-add-word
-add-word c = search needs
-
-word-requires : tie.Need-word-requires
-word-requires c κs = search needs
-
-byte-requires : tie.Need-byte-requires
-byte-requires c κs = search needs
-
-signed-requires : tie.Need-signed-requires
-signed-requires c κs = search needs
-
-cast-t9 : tie.Need-cast-t9
-cast-t9 c = search needs
-
 returns : tie.Need-returns
 unfolding itemTagged
 returns c =
@@ -57,12 +39,8 @@ pub at-spec : {M : Type 1} → statement M
 at-spec =
     tie.close
     (tie.spec
-    mul-base
-    add-word
-    word-requires
-    byte-requires
-    signed-requires
-    cast-t9
+    (λ c. search needs) (λ c. search needs) (λ c κs. search needs) (λ c κs. search needs) (λ c κs. search needs)
+    (λ c. search needs)
     returns
     returns-2
     returns-3

@@ -11,45 +11,9 @@ use Rattle.machine.proofs.Stores.{tagged-number, stored}
 use Rattle.machine.proofs.item.put.Statement.{statement}
 use Rattle.machine.proofs.item.put.Tie as tie
 
-mul-base : tie.Need-mul-base
-mul-base c = search needs
-
-enum-known-item : tie.Need-enum-known-item
-enum-known-item c = search needs
-
-residue-requires : tie.Need-residue-requires
-residue-requires c κs = search needs
-
-put-requires : tie.Need-put-requires
-put-requires c κs = search needs
-
-enum-known-item-2 : tie.Need-enum-known-item-2
-enum-known-item-2 c = search needs
-
 cast-put : tie.Need-cast-put
 unfolding handlerOf
 cast-put c = omega (arith, rw (c .before .before .item2 .given .1) at (c .before .before .before .before .before .pre .operand))
-
-put-requires-2 : tie.Need-put-requires-2
-put-requires-2 c κs = search needs
-
-enum-known-item-3 : tie.Need-enum-known-item-3
-enum-known-item-3 c = search needs
-
-enum-told : tie.Need-enum-told
-enum-told c = search needs
-
-put-requires-3 : tie.Need-put-requires-3
-put-requires-3 c κs = search needs
-
-enum-told-2 : tie.Need-enum-told-2
-enum-told-2 c = search needs
-
-put-requires-4 : tie.Need-put-requires-4
-put-requires-4 c κs = search needs
-
-same-length : tie.Need-same-length
-same-length c = search needs
 
 returns : tie.Need-returns
 returns c =
@@ -62,9 +26,6 @@ returns c =
     let number : itemTagged 0 (residue .result) ≡ Number (item .0 .0) = rw (residue .ensures, toZ-ofZ fits) (tagged-number fits) in
     stored 0 (residue .result) (pre .room) (pre .place) (residue .ok) (number ∙ sym (item .1)) (c .before .before .put .ensures)
 
-same-length-2 : tie.Need-same-length-2
-same-length-2 c = search needs
-
 returns-2 : tie.Need-returns-2
 unfolding itemTagged handlerOf
 returns-2 c =
@@ -74,9 +35,6 @@ returns-2 c =
     let small = rw handler at (pre .operand) in
     stored 1 (at-item .item2 .given .0 .0) (pre .room) (pre .place) small (sym handler) (c .before .before .put2 .ensures)
 
-same-length-3 : tie.Need-same-length-3
-same-length-3 c = search needs
-
 returns-3 : tie.Need-returns-3
 unfolding itemTagged
 returns-3 c =
@@ -85,9 +43,6 @@ returns-3 c =
     let pre = at-item .before .before .before .pre in
     let saved = at-item .item3 .given .1 ∙ ap Saved (at-told .enum-told .given .1) in
     stored 2 0 (pre .room) (pre .place) (omega arith) (sym saved) (c .before .before .put3 .ensures)
-
-same-length-4 : tie.Need-same-length-4
-same-length-4 c = search needs
 
 returns-4 : tie.Need-returns-4
 unfolding itemTagged
@@ -102,23 +57,14 @@ pub put-spec : {M : Type 1} → statement M
 put-spec =
     tie.close
     (tie.spec
-    mul-base
-    enum-known-item
-    residue-requires
-    put-requires
-    enum-known-item-2
+    (λ c. search needs) (λ c. search needs) (λ c κs. search needs) (λ c κs. search needs) (λ c. search needs)
     cast-put
-    put-requires-2
-    enum-known-item-3
-    enum-told
-    put-requires-3
-    enum-told-2
-    put-requires-4
-    same-length
+    (λ c κs. search needs) (λ c. search needs) (λ c. search needs) (λ c κs. search needs) (λ c. search needs)
+    (λ c κs. search needs) (λ c. search needs)
     returns
-    same-length-2
+    (λ c. search needs)
     returns-2
-    same-length-3
+    (λ c. search needs)
     returns-3
-    same-length-4
+    (λ c. search needs)
     returns-4)

@@ -67,17 +67,11 @@ within c = joined (on (c .before) .1) (c .loop .inv)
 
 -- ---- the outer loop
 
-new-requires : tie.Need-new-requires Inv-loop μ-loop Inv-run μ-run
-new-requires c κs = search needs
-
 run-holds : tie.Need-run-holds Inv-loop μ-loop Inv-run μ-run
 run-holds c = rw (c .new .ensures) (begun (c .before .before .before .before .args .stack .now) (omega arith) (omega arith) (omega arith), refl)
 
 at-length-requires : tie.Need-at-length-requires Inv-loop μ-loop Inv-run μ-run
 at-length-requires c κs = let head = c .before .before .before in omega (arith, head .before .before .before .before .before .pre .room, head .run .inv .0 .size)
-
-refused-requires : tie.Need-refused-requires Inv-loop μ-loop Inv-run μ-run
-refused-requires c κs = search needs
 
 step-requires : tie.Need-step-requires Inv-loop μ-loop Inv-run μ-run
 step-requires c κs =
@@ -86,21 +80,6 @@ step-requires c κs =
     let head = below .before .before in
     let s = head .before .before .before .before .before in
     at-an-instruction (s .args .code .now) (s .args .schedule .now) (head .run .inv .0) (here below) (left .if2 .left) (s .pre)
-
-enum-known-next : tie.Need-enum-known-next Inv-loop μ-loop Inv-run μ-run
-enum-known-next c = search needs
-
-enum-told : tie.Need-enum-told Inv-loop μ-loop Inv-run μ-run
-enum-told c = search needs
-
-refused-requires-2 : tie.Need-refused-requires-2 Inv-loop μ-loop Inv-run μ-run
-refused-requires-2 c κs = search needs
-
-enum-told-2 : tie.Need-enum-told-2 Inv-loop μ-loop Inv-run μ-run
-enum-told-2 c = search needs
-
-refused-requires-3 : tie.Need-refused-requires-3 Inv-loop μ-loop Inv-run μ-run
-refused-requires-3 c κs = search needs
 
 run-less : tie.Need-run-less Inv-loop μ-loop Inv-run μ-run
 run-less c = omega (arith, on (c .before .before) .0, c .before .loop .inv .later, c .before .loop .inv .steps)
@@ -112,9 +91,6 @@ run-again c = (joined (on (c .before .before) .1) (c .before .loop .inv), c .loo
 
 loop-holds : tie.Need-loop-holds Inv-loop μ-loop Inv-run μ-run
 loop-holds c = let so-far = on c .1 in begun _ (so-far .steps) (so-far .reached) (so-far .height)
-
-refused-requires-4 : tie.Need-refused-requires-4 Inv-loop μ-loop Inv-run μ-run
-refused-requires-4 c κs = search needs
 
 unwind-requires : tie.Need-unwind-requires Inv-loop μ-loop Inv-run μ-run
 unwind-requires c κs =
@@ -233,20 +209,16 @@ repeat-spec =
     μ-loop
     Inv-run
     μ-run
-    new-requires
+    (λ c κs. search needs)
     run-holds
     at-length-requires
-    refused-requires
+    (λ c κs. search needs)
     step-requires
-    enum-known-next
-    enum-told
-    refused-requires-2
-    enum-told-2
-    refused-requires-3
+    (λ c. search needs) (λ c. search needs) (λ c κs. search needs) (λ c. search needs) (λ c κs. search needs)
     loop-holds
     run-less
     run-again
-    refused-requires-4
+    (λ c κs. search needs)
     unwind-requires
     loop-less
     loop-again

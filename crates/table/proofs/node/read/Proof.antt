@@ -1,94 +1,88 @@
 -- `table::node::read` meets its contract: what is answered is by the first test that refuses. Assumes nothing.
-use Prim.Native.Nat.{_≤_}
+use Prim.Native.Nat.{ℕ, _*_, _≤_}
 use native.Mathlib.Omega.{arith}
 use borrow.Author.Tests.{eq-eqb, ne-eqb, ltb-true, ltb-false}
 use borrow.Author.Needs.{needs}
+use mathlib.Core.Bool.{Bool}
+use mathlib.Core.List.{List}
 use mathlib.Core.Logic.{⊎-elim}
-use mathlib.Core.Path.{sym, _∙_}
-use Rattle.table.proofs.NodeKinds.{Known, kind-known, kind-unknown}
-use Rattle.table.proofs.Reading.{reads-kind, reads-unused, reads-operand, reads-sound}
+use mathlib.Core.Path.{_≡_, ap, sym, _∙_}
+use Rattle.rules.specs.Limits.{recordBytes}
+use Rattle.rules.specs.Table.{kinds, nodeAt, operandsOf, allBelow, nodeTest}
+use Rattle.rules.specs.declared.Reason.the-variants.{UnusedByte, Operand}
+use Rattle.rules.proofs.Checking.{TwoTests, first-refuses, second-refuses, both-pass}
+use Rattle.rules.proofs.Lists.{RowKnown, row-known, row-unknown}
+use Rattle.table.specs.Reading.{unusedZero}
+use Rattle.table.specs.declared.node.Reading.the-variants.{Refused}
+use Rattle.table.proofs.Reading.{reads-unknown, tests}
 use Rattle.table.proofs.node.read.Statement.{statement}
 use Rattle.table.proofs.node.read.Tie as tie
 
-mul-byte : tie.Need-mul-byte
-mul-byte c = search needs
-
-byte-requires : tie.Need-byte-requires
-byte-requires c κs = search needs
-
-known : (c : tie.Else2) → Known (c .before .before .byte .result)
-known c = kind-known _ (omega (arith, c .before .if1 .left)) (ltb-false 7 _ (c .if2 .left))
-
-refused-requires : tie.Need-refused-requires
-refused-requires c κs = search needs
-
-returns : tie.Need-returns
-returns c =
-    let s = c .before .before .before .before .args in
+unknown : tie.Need-returns
+unfolding kinds
+unknown c =
     let kind = c .before .before .byte .result in
-    let outside : 1 ≤ kind → kind ≤ 7 → ⊥ = λ l h. ⊎-elim (λ w. omega (arith, w .taken)) (λ w. omega (arith, ltb-true 7 kind (w .1 .taken))) (c .before .if1 .came) in
-    c .refused .ensures ∙ sym (reads-kind (s .table .now) (s .j) (c .before .before .byte .ensures .0) (kind-unknown kind outside))
+    let outside : 1 ≤ kind → kind ≤ 7 → ⊥ = λ l h. ⊎-elim
+    (λ way. omega (arith, way .taken))
+    (λ way. omega (arith, ltb-true 7 kind (way .1 .taken)))
+    (c .before .if1 .came) in
+    c .refused .ensures ∙ sym (reads-unknown _ _ (c .before .before .byte .ensures .0) (row-unknown kinds kind outside))
 
-mul-unused : tie.Need-mul-unused
-mul-unused c = search needs
+known : (c : tie.Else2) → RowKnown kinds (c .before .before .byte .result)
+unfolding kinds
+known c = row-known kinds _ (omega (arith, c .before .if1 .left)) (ltb-false 7 _ (c .if2 .left))
 
-unused-requires : tie.Need-unused-requires
-unused-requires c κs = search needs
+-- ---- the tests 3 and 4, of a known kind
 
-refused-requires-2 : tie.Need-refused-requires-2
-refused-requires-2 c κs = search needs
+module _ (c : tie.Else2) where
+  abbrev table : List ℕ
+  table = c .before .before .before .before .args .table .now
 
-returns-2 : tie.Need-returns-2
-returns-2 c =
-    let b = c .before .before .before .before .before in
-    let s = b .before .before .args in
-    let known-kind = known (c .before .before .before) in
-    let stray = sym (c .before .before .unused .ensures) ∙ ne-eqb _ _ (c .before .if3 .taken) in
-    c .refused2 .ensures ∙ sym (reads-unused (s .table .now) (s .j) (b .byte .ensures .0) known-kind stray)
+  abbrev j : ℕ
+  j = c .before .before .before .before .args .j
 
-at-requires : tie.Need-at-requires
-at-requires c κs = search needs
+  in-turn : TwoTests (nodeTest table j)
+      (unusedZero table (recordBytes * j) (c .before .before .byte .result)) (record { reason = UnusedByte; place = j })
+      (allBelow j (operandsOf (nodeAt table j))) (record { reason = Operand; place = j })
+  in-turn = tests table j (c .before .before .byte .ensures .0) (known c)
 
-operands-below-requires : tie.Need-operands-below-requires
-operands-below-requires c κs = search needs
+stray : tie.Need-returns-2
+stray c =
+    let at = c .before .before .before in
+    let wrong = sym (c .before .before .unused .ensures) ∙ ne-eqb _ _ (c .before .if3 .taken) in
+    c .refused2 .ensures ∙ sym (first-refuses Refused _ (in-turn at) wrong)
 
-refused-requires-3 : tie.Need-refused-requires-3
-refused-requires-3 c κs = search needs
+-- what `below` answers is test 4
+tested : (c : tie.After-below)
+    → allBelow (j (c .before .before .before .before .before)) (operandsOf (nodeAt (table (c .before .before .before .before .before)) (j (c .before .before .before .before .before))))
+    ≡ c .below .result
+tested c =
+    let start = c .before .before .before .before .before in
+    ap (λ node. allBelow (j start) (operandsOf node)) (sym (c .before .before .at .ensures))
+    ∙ ap (allBelow (j start)) (sym (c .before .operands-of .ensures))
+    ∙ sym (c .below .ensures)
 
-returns-3 : tie.Need-returns-3
-returns-3 c =
-    let b = c .before .before .before .before .before .before .before in
-    let s = b .before .before .args in
-    let known-kind = known (c .before .before .before .before .before) in
-    let clean = sym (c .before .before .before .before .unused .ensures) ∙ eq-eqb _ _ (c .before .before .before .if3 .left) in
-    let below = sym (c .before .operands-below .ensures) ∙ c .if4 .taken in
-    rw (c .before .before .at .ensures)
-    (sym (reads-sound (s .table .now) (s .j) (b .byte .ensures .0) known-kind clean (rw (c .before .before .at .ensures) at below)))
+sound : tie.Need-returns-3
+sound c =
+    let at = c .before .before .before in
+    let clean = sym (at .before .before .unused .ensures) ∙ eq-eqb _ _ (at .before .if3 .left) in
+    rw (at .at .ensures) (sym (both-pass Refused _ (in-turn (at .before .before .before)) clean (tested (c .before) ∙ c .if4 .taken)))
 
-returns-4 : tie.Need-returns-4
-returns-4 c =
-    let b = c .before .before .before .before .before .before .before .before in
-    let s = b .before .before .args in
-    let known-kind = known (c .before .before .before .before .before .before) in
-    let clean = sym (c .before .before .before .before .before .unused .ensures) ∙ eq-eqb _ _ (c .before .before .before .before .if3 .left) in
-    let up = sym (c .before .before .operands-below .ensures) ∙ c .before .if4 .left in
+not-below : tie.Need-returns-4
+not-below c =
+    let at = c .before .before .before .before in
+    let clean = sym (at .before .before .unused .ensures) ∙ eq-eqb _ _ (at .before .if3 .left) in
     c .refused3 .ensures
-    ∙ sym (reads-operand (s .table .now) (s .j) (b .byte .ensures .0) known-kind clean (rw (c .before .before .before .at .ensures) at up))
+    ∙ sym (second-refuses Refused _ (in-turn (at .before .before .before)) clean (tested (c .before .before) ∙ c .before .if4 .left))
 
 pub read-spec : {M : Type 1} → statement M
 read-spec =
     tie.close
     (tie.spec
-    mul-byte
-    byte-requires
-    refused-requires
-    returns
-    mul-unused
-    unused-requires
-    refused-requires-2
-    returns-2
-    at-requires
-    operands-below-requires
-    refused-requires-3
-    returns-3
-    returns-4)
+    (λ c. search needs) (λ c κs. search needs) (λ c κs. search needs)
+    unknown
+    (λ c. search needs) (λ c κs. search needs) (λ c κs. search needs)
+    stray
+    (λ c κs. search needs) (λ c κs. search needs) (λ c κs. search needs) (λ c κs. search needs)
+    sound
+    not-below)

@@ -19,9 +19,6 @@ add-counts c = omega (arith, c .before .pre .low (c .before .args .node))
 slice-write-counts : tie.Need-slice-write-counts
 slice-write-counts c = room-first (c .before .pre)
 
-same-length : tie.Need-same-length
-same-length c = search needs
-
 returns : tie.Need-returns
 unfolding counted
 returns c = refl
@@ -29,4 +26,4 @@ returns c = refl
 pub count-one-spec : {M : Type 1} → statement M
 count-one-spec =
     tie.close
-    (tie.spec mul-counts slice-read-counts add-counts slice-write-counts same-length returns)
+    (tie.spec mul-counts slice-read-counts add-counts slice-write-counts (λ c. search needs) returns)

@@ -15,33 +15,12 @@ returns c =
     let s = c .before .before in
     add-few (s .args .stack .now) (s .args .self) (c .if1 .taken)
 
-sub-at : tie.Need-sub-at
-sub-at c = search needs
-
-at-requires : tie.Need-at-requires
-at-requires c κs = search needs
-
-enum-known-m : tie.Need-enum-known-m
-enum-known-m c = search needs
-
-same-length : tie.Need-same-length
-same-length c = search needs
-
 returns-2 : tie.Need-returns-2
 returns-2 c =
     let top = c .before in
     let tested = top .before .before in
     let s = tested .before .before in
     add-top (s .args .stack .now) (s .args .self) (tested .if1 .left) (top .at .ensures) (c .match .keys2)
-
-at-requires-2 : tie.Need-at-requires-2
-at-requires-2 c κs = search needs
-
-enum-known-n : tie.Need-enum-known-n
-enum-known-n c = search needs
-
-same-length-2 : tie.Need-same-length-2
-same-length-2 c = search needs
 
 returns-3 : tie.Need-returns-3
 returns-3 c =
@@ -55,24 +34,9 @@ returns-3 c =
     (below .at2 .ensures)
     (c .match2 .keys2)
 
-sum-requires : tie.Need-sum-requires
-sum-requires c κs = search needs
-
 put-requires : tie.Need-put-requires
 unfolding handlerOf
 put-requires c κs = search needs
-
-add-onward : tie.Need-add-onward
-add-onward c = search needs
-
-sub-onward : tie.Need-sub-onward
-sub-onward c = search needs
-
-onward-requires : tie.Need-onward-requires
-onward-requires c κs = search needs
-
-same-length-3 : tie.Need-same-length-3
-same-length-3 c = search needs
 
 returns-4 : tie.Need-returns-4
 returns-4 c =
@@ -100,19 +64,11 @@ add-spec =
     tie.close
     (tie.spec
     returns
-    sub-at
-    at-requires
-    enum-known-m
-    same-length
+    (λ c. search needs) (λ c κs. search needs) (λ c. search needs) (λ c. search needs)
     returns-2
-    at-requires-2
-    enum-known-n
-    same-length-2
+    (λ c κs. search needs) (λ c. search needs) (λ c. search needs)
     returns-3
-    sum-requires
+    (λ c κs. search needs)
     put-requires
-    add-onward
-    sub-onward
-    onward-requires
-    same-length-3
+    (λ c. search needs) (λ c. search needs) (λ c κs. search needs) (λ c. search needs)
     returns-4)

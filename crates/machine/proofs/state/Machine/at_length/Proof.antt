@@ -8,12 +8,6 @@ use Rattle.machine.proofs.AtLength.{one-number, one-other, not-one}
 use Rattle.machine.proofs.state.Machine.at_length.Statement.{statement}
 use Rattle.machine.proofs.state.Machine.at_length.Tie as tie
 
-at-requires : tie.Need-at-requires
-at-requires c κs = search needs
-
-enum-known-n : tie.Need-enum-known-n
-enum-known-n c = search needs
-
 returns : tie.Need-returns
 returns c =
     let s = c .before .before .before .before .before .before .before .args in
@@ -31,4 +25,4 @@ returns-3 : tie.Need-returns-3
 returns-3 c = let s = c .before .before .before .args in not-one (s .stack .now) (s .self) (c .if1 .left)
 
 pub at-length-spec : {M : Type 1} → statement M
-at-length-spec = tie.close (tie.spec at-requires enum-known-n returns returns-2 returns-3)
+at-length-spec = tie.close (tie.spec (λ c κs. search needs) (λ c. search needs) returns returns-2 returns-3)

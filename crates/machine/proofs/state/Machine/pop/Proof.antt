@@ -12,18 +12,6 @@ returns c =
     let s = c .before .before in
     pop-none (s .args .stack .now) (s .args .self) (c .if1 .taken)
 
-sub-at : tie.Need-sub-at
-sub-at c = search needs
-
-at-requires : tie.Need-at-requires
-at-requires c κs = search needs
-
-enum-told : tie.Need-enum-told
-enum-told c = search needs
-
-same-length : tie.Need-same-length
-same-length c = search needs
-
 returns-2 : tie.Need-returns-2
 returns-2 c =
     let top = c .before in
@@ -32,18 +20,6 @@ returns-2 c =
     pop-other (s .args .stack .now) (s .args .self) (omega (arith, tested .if1 .left))
     (top .at .ensures)
     (c .match .keys2)
-
-add-onward : tie.Need-add-onward
-add-onward c = search needs
-
-sub-onward : tie.Need-sub-onward
-sub-onward c = search needs
-
-onward-requires : tie.Need-onward-requires
-onward-requires c κs = search needs
-
-same-length-2 : tie.Need-same-length-2
-same-length-2 c = search needs
 
 returns-3 : tie.Need-returns-3
 returns-3 c =
@@ -60,13 +36,7 @@ pop-spec =
     tie.close
     (tie.spec
     returns
-    sub-at
-    at-requires
-    enum-told
-    same-length
+    (λ c. search needs) (λ c κs. search needs) (λ c. search needs) (λ c. search needs)
     returns-2
-    add-onward
-    sub-onward
-    onward-requires
-    same-length-2
+    (λ c. search needs) (λ c. search needs) (λ c κs. search needs) (λ c. search needs)
     returns-3)

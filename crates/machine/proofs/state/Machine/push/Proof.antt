@@ -11,21 +11,6 @@ returns c =
     let s = c .before .before in
     push-full (s .args .stack .now) (s .args .self) (s .args .item) (s .args .status) (c .if1 .taken)
 
-put-requires : tie.Need-put-requires
-put-requires c κs = search needs
-
-add-onward : tie.Need-add-onward
-add-onward c = search needs
-
-add-onward-2 : tie.Need-add-onward-2
-add-onward-2 c = search needs
-
-onward-requires : tie.Need-onward-requires
-onward-requires c κs = search needs
-
-same-length : tie.Need-same-length
-same-length c = search needs
-
 returns-2 : tie.Need-returns-2
 returns-2 c =
     let put = c .before .before .before .before in
@@ -39,4 +24,4 @@ returns-2 c =
 pub push-spec : {M : Type 1} → statement M
 push-spec =
     tie.close
-    (tie.spec returns put-requires add-onward add-onward-2 onward-requires same-length returns-2)
+    (tie.spec returns (λ c κs. search needs) (λ c. search needs) (λ c. search needs) (λ c κs. search needs) (λ c. search needs) returns-2)

@@ -15,33 +15,12 @@ returns c =
     let s = c .before .before in
     reset-few (s .args .stack .now) (s .args .self) (c .if1 .taken)
 
-sub-at : tie.Need-sub-at
-sub-at c = search needs
-
-at-requires : tie.Need-at-requires
-at-requires c κs = search needs
-
-enum-known-n : tie.Need-enum-known-n
-enum-known-n c = search needs
-
-same-length : tie.Need-same-length
-same-length c = search needs
-
 returns-2 : tie.Need-returns-2
 returns-2 c =
     let top = c .before in
     let tested = top .before .before in
     let s = tested .before .before in
     reset-top (s .args .stack .now) (s .args .self) (tested .if1 .left) (top .at .ensures) (c .match .keys2)
-
-at-requires-2 : tie.Need-at-requires-2
-at-requires-2 c κs = search needs
-
-enum-known-status : tie.Need-enum-known-status
-enum-known-status c = search needs
-
-same-length-2 : tie.Need-same-length-2
-same-length-2 c = search needs
 
 returns-3 : tie.Need-returns-3
 returns-3 c =
@@ -58,18 +37,6 @@ returns-3 c =
 put-requires : tie.Need-put-requires
 unfolding handlerOf
 put-requires c κs = search needs
-
-add-onward : tie.Need-add-onward
-add-onward c = search needs
-
-sub-onward : tie.Need-sub-onward
-sub-onward c = search needs
-
-onward-requires : tie.Need-onward-requires
-onward-requires c κs = search needs
-
-same-length-3 : tie.Need-same-length-3
-same-length-3 c = search needs
 
 returns-4 : tie.Need-returns-4
 returns-4 c =
@@ -93,18 +60,10 @@ reset-spec =
     tie.close
     (tie.spec
     returns
-    sub-at
-    at-requires
-    enum-known-n
-    same-length
+    (λ c. search needs) (λ c κs. search needs) (λ c. search needs) (λ c. search needs)
     returns-2
-    at-requires-2
-    enum-known-status
-    same-length-2
+    (λ c κs. search needs) (λ c. search needs) (λ c. search needs)
     returns-3
     put-requires
-    add-onward
-    sub-onward
-    onward-requires
-    same-length-3
+    (λ c. search needs) (λ c. search needs) (λ c κs. search needs) (λ c. search needs)
     returns-4)

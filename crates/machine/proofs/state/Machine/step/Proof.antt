@@ -10,18 +10,11 @@ use mir.Facts.{toZ-ofZ}
 use Rattle.rules.specs.Machine.{execute}
 use Rattle.rules.specs.declared.Instruction.{Instruction}
 use Rattle.machine.specs.Items.{handlerOf}
-use Rattle.machine.specs.Reading.{targetOf}
 use Rattle.machine.specs.States.{Carries, Steps}
 use Rattle.machine.specs.declared.step.Step.{Step}
 use Rattle.machine.proofs.Stepping.{cut, carried-out, thrown}
 use Rattle.machine.proofs.state.Machine.step.Statement.{statement}
 use Rattle.machine.proofs.state.Machine.step.Tie as tie
-
-strikes-requires : tie.Need-strikes-requires
-strikes-requires c κs = search needs
-
-onward-requires : tie.Need-onward-requires
-onward-requires c κs = search needs
 
 returns : tie.Need-returns
 returns c =
@@ -36,65 +29,20 @@ carried c told does =
     let uncut = sym (c .before .if1 .left) ∙ c .before .before .strikes .ensures in
     carried-out (s .pre) (s .args .schedule .now) uncut (sym told ∙ c .at .ensures .0) does
 
-at-requires : tie.Need-at-requires
-at-requires c κs = search needs
-
-enum-known-n : tie.Need-enum-known-n
-enum-known-n c = search needs
-
 push-requires : tie.Need-push-requires
 unfolding handlerOf
 push-requires c κs = (c .before .before .before .before .before .before .before .before .before .before .pre .ready, omega arith)
 
-enum-told : tie.Need-enum-told
-enum-told c = search needs
-
-onward-requires-2 : tie.Need-onward-requires-2
-onward-requires-2 c κs = search needs
-
-enum-told-2 : tie.Need-enum-told-2
-enum-told-2 c = search needs
-
-add-requires : tie.Need-add-requires
-add-requires c κs = search needs
-
-enum-told-3 : tie.Need-enum-told-3
-enum-told-3 c = search needs
-
-pop-requires : tie.Need-pop-requires
-pop-requires c κs = search needs
-
-enum-known-target : tie.Need-enum-known-target
-enum-known-target c = search needs
-
 push-requires-2 : tie.Need-push-requires-2
-unfolding handlerOf targetOf
+unfolding handlerOf
 push-requires-2 c κs =
     let told = c .before .before in
     let read = told .before .before in
     (read .before .before .before .before .before .before .pre .ready, rw (told .target .given .1) at (read .at .ensures .1))
 
-enum-known-target-2 : tie.Need-enum-known-target-2
-enum-known-target-2 c = search needs
-
-unmark-requires : tie.Need-unmark-requires
-unmark-requires c κs = search needs
-
-enum-known-status : tie.Need-enum-known-status
-enum-known-status c = search needs
-
 push-requires-3 : tie.Need-push-requires-3
 unfolding handlerOf
 push-requires-3 c κs = (c .before .before .before .before .before .before .before .before .before .before .pre .ready, omega arith)
-
-enum-told-4 : tie.Need-enum-told-4
-enum-told-4 c = search needs
-
-reset-requires : tie.Need-reset-requires
-reset-requires c κs = search needs
-
-same-length : tie.Need-same-length
-same-length c = search needs
 
 returns-2 : tie.Need-returns-2
 unfolding execute
@@ -111,40 +59,22 @@ returns-3 c =
     let s = read .before .before .before .before .before .before .args in
     rw (c .onward2 .ensures) (carried read (told .enum-told .given .1) (thrown (s .stack .now) (s .self)))
 
-same-length-2 : tie.Need-same-length-2
-same-length-2 c = search needs
-
 returns-4 : tie.Need-returns-4
 returns-4 c = let told = c .before .before .before .before in carried (told .before .before) (told .enum-told2 .given .1) (c .before .before .add .ensures)
 
-same-length-3 : tie.Need-same-length-3
-same-length-3 c = search needs
-
 returns-5 : tie.Need-returns-5
 returns-5 c = let told = c .before .before .before .before in carried (told .before .before) (told .enum-told3 .given .1) (c .before .before .pop .ensures)
-
-same-length-4 : tie.Need-same-length-4
-same-length-4 c = search needs
 
 returns-6 : tie.Need-returns-6
 unfolding execute
 returns-6 c = let told = c .before .before .before .before .before in carried (told .before .before) (told .target .given .1) (c .before .before .push2 .ensures)
 
-same-length-5 : tie.Need-same-length-5
-same-length-5 c = search needs
-
 returns-7 : tie.Need-returns-7
 returns-7 c = let told = c .before .before .before .before .before in carried (told .before .before) (told .target2 .given .1) (c .before .before .unmark .ensures)
-
-same-length-6 : tie.Need-same-length-6
-same-length-6 c = search needs
 
 returns-8 : tie.Need-returns-8
 unfolding execute
 returns-8 c = let told = c .before .before .before .before .before in carried (told .before .before) (told .status .given .1) (c .before .before .push3 .ensures)
-
-same-length-7 : tie.Need-same-length-7
-same-length-7 c = search needs
 
 returns-9 : tie.Need-returns-9
 returns-9 c = let told = c .before .before .before .before in carried (told .before .before) (told .enum-told4 .given .1) (c .before .before .reset .ensures)
@@ -153,38 +83,27 @@ pub step-spec : {M : Type 1} → statement M
 step-spec =
     tie.close
     (tie.spec
-    strikes-requires
-    onward-requires
+    (λ c κs. search needs) (λ c κs. search needs)
     returns
-    at-requires
-    enum-known-n
+    (λ c κs. search needs) (λ c. search needs)
     push-requires
-    enum-told
-    onward-requires-2
-    enum-told-2
-    add-requires
-    enum-told-3
-    pop-requires
-    enum-known-target
+    (λ c. search needs) (λ c κs. search needs) (λ c. search needs) (λ c κs. search needs) (λ c. search needs)
+    (λ c κs. search needs) (λ c. search needs)
     push-requires-2
-    enum-known-target-2
-    unmark-requires
-    enum-known-status
+    (λ c. search needs) (λ c κs. search needs) (λ c. search needs)
     push-requires-3
-    enum-told-4
-    reset-requires
-    same-length
+    (λ c. search needs) (λ c κs. search needs) (λ c. search needs)
     returns-2
     returns-3
-    same-length-2
+    (λ c. search needs)
     returns-4
-    same-length-3
+    (λ c. search needs)
     returns-5
-    same-length-4
+    (λ c. search needs)
     returns-6
-    same-length-5
+    (λ c. search needs)
     returns-7
-    same-length-6
+    (λ c. search needs)
     returns-8
-    same-length-7
+    (λ c. search needs)
     returns-9)

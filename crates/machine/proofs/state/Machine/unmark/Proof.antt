@@ -15,18 +15,6 @@ returns c =
     let s = c .before .before in
     unmark-few (s .args .stack .now) (s .args .self) (s .args .target) (c .if1 .taken)
 
-sub-at : tie.Need-sub-at
-sub-at c = search needs
-
-at-requires : tie.Need-at-requires
-at-requires c κs = search needs
-
-enum-known-n : tie.Need-enum-known-n
-enum-known-n c = search needs
-
-same-length : tie.Need-same-length
-same-length c = search needs
-
 returns-2 : tie.Need-returns-2
 returns-2 c =
     let top = c .before in
@@ -36,15 +24,6 @@ returns-2 c =
     (top .at .ensures)
     (c .match .keys2)
     (s .args .target)
-
-at-requires-2 : tie.Need-at-requires-2
-at-requires-2 c κs = search needs
-
-enum-told : tie.Need-enum-told
-enum-told c = search needs
-
-same-length-2 : tie.Need-same-length-2
-same-length-2 c = search needs
 
 returns-3 : tie.Need-returns-3
 returns-3 c =
@@ -62,15 +41,6 @@ returns-3 c =
 put-requires : tie.Need-put-requires
 unfolding handlerOf
 put-requires c κs = search needs
-
-sub-onward : tie.Need-sub-onward
-sub-onward c = search needs
-
-onward-requires : tie.Need-onward-requires
-onward-requires c κs = search needs
-
-same-length-3 : tie.Need-same-length-3
-same-length-3 c = search needs
 
 returns-4 : tie.Need-returns-4
 returns-4 c =
@@ -95,17 +65,10 @@ unmark-spec =
     tie.close
     (tie.spec
     returns
-    sub-at
-    at-requires
-    enum-known-n
-    same-length
+    (λ c. search needs) (λ c κs. search needs) (λ c. search needs) (λ c. search needs)
     returns-2
-    at-requires-2
-    enum-told
-    same-length-2
+    (λ c κs. search needs) (λ c. search needs) (λ c. search needs)
     returns-3
     put-requires
-    sub-onward
-    onward-requires
-    same-length-3
+    (λ c. search needs) (λ c κs. search needs) (λ c. search needs)
     returns-4)

@@ -5,30 +5,6 @@ use Rattle.machine.proofs.Removing.{number-dropped, handler-entered, st
 use Rattle.machine.proofs.state.Machine.unwind.Statement.{statement}
 use Rattle.machine.proofs.state.Machine.unwind.Tie as tie
 
-sub-height : tie.Need-sub-height
-sub-height c = search needs
-
-at-requires : tie.Need-at-requires
-at-requires c κs = search needs
-
-enum-told : tie.Need-enum-told
-enum-told c = search needs
-
-unwound-requires : tie.Need-unwound-requires
-unwound-requires c κs = search needs
-
-enum-known-address : tie.Need-enum-known-address
-enum-known-address c = search needs
-
-unwound-requires-2 : tie.Need-unwound-requires-2
-unwound-requires-2 c κs = search needs
-
-enum-known-status : tie.Need-enum-known-status
-enum-known-status c = search needs
-
-unwound-requires-3 : tie.Need-unwound-requires-3
-unwound-requires-3 c κs = search needs
-
 returns : tie.Need-returns
 returns c =
     let s = c .before .before .before .before .before .before .args in
@@ -51,14 +27,8 @@ pub unwind-spec : {M : Type 1} → statement M
 unwind-spec =
     tie.close
     (tie.spec
-    sub-height
-    at-requires
-    enum-told
-    unwound-requires
-    enum-known-address
-    unwound-requires-2
-    enum-known-status
-    unwound-requires-3
+    (λ c. search needs) (λ c κs. search needs) (λ c. search needs) (λ c κs. search needs) (λ c. search needs)
+    (λ c κs. search needs) (λ c. search needs) (λ c κs. search needs)
     returns
     returns-2
     returns-3)
