@@ -1,6 +1,5 @@
 pub mod Compiling
 pub mod Emitting
-pub mod Fits
 pub mod Operands
 pub mod Stores
 pub mod Writing
