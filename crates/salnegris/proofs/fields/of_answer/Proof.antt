@@ -6,17 +6,17 @@ use Rattle.salnegris.specs.Fields.{answerFields}
 use Rattle.salnegris.proofs.fields.of_answer.Statement.{statement}
 use Rattle.salnegris.proofs.fields.of_answer.Tie as tie
 
-place : tie.Need-cast-t12
-unfolding outcomePlace
-place c =
-    let refused = c .before .before .before in
-    record { fits = rw (refused .outcome2 .given .1) at (refused .before .before .before .before .pre .place) }
-
 pub of-answer-spec : {M : Type 1} → statement M
 unfolding answerFields outcomeKind outcomeNumber outcomeRefusal outcomePlace
 of-answer-spec =
     tie.close (tie.spec
-    (search needs) (search needs) (search needs) (search needs) (search needs) (search needs) (search needs) place
-    (λ c. let number = c .before in rw (number .before .before .before .outcome .given .1, number .end .given .1, toZ-ofZ (record { sfits = c .known-told2 .given .0 .1 })))
+    (search needs) (search needs) (search needs) (search needs) (search needs) (search needs) (search needs)
+    (λ c. let refused = c .before .before .before in
+    record { fits = rw (refused .outcome2 .given .1) at (refused .before .before .before .before .pre .place) })
+    (λ c. rw (
+      c .before .before .before .before .outcome .given .1,
+      c .before .end .given .1,
+      toZ-ofZ (record { sfits = c .known-told2 .given .0 .1 }),
+    ))
     (λ c. rw (c .before .before .before .outcome .given .1, c .enum-told .given .1))
     (λ c. rw (c .before .before .before .outcome2 .given .1, c .before .number-of .ensures)))

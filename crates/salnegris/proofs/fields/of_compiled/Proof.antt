@@ -11,6 +11,7 @@ of-compiled-spec =
     tie.close (tie.spec
     (search needs) (λ c. record { fits = rw (c .before .compiled .given .1) at (c .before .before .before .pre .length) })
     (search needs) (search needs)
-    (λ c. let refused = c .before .before .before in record { fits = rw (refused .compiled2 .given .1) at (refused .before .before .pre .place) })
+    (λ c. let refused = c .before .before .before in
+    record { fits = rw (refused .compiled2 .given .1) at (refused .before .before .pre .place) })
     (λ c. rw (c .before .compiled .given .1))
     (λ c. rw (c .before .before .before .compiled2 .given .1, c .before .number-of .ensures)))
