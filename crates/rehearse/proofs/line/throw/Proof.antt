@@ -4,8 +4,5 @@ use Rattle.rehearse.proofs.Writing.{also-written}
 use Rattle.rehearse.proofs.line.throw.Statement.{statement}
 use Rattle.rehearse.proofs.line.throw.Tie as tie
 
-returns : tie.Need-returns
-returns c = search also-written
-
 pub throw-spec : {M : Type 1} → statement M
-throw-spec = tie.close (tie.spec (search needs) (search needs) (search needs) (search needs) returns)
+throw-spec = tie.close (tie.spec (search needs) (search needs) (search needs) (search needs) (λ c. search also-written))

@@ -10,9 +10,6 @@ use Rattle.rehearse.proofs.put.decimal.Tie as tie
 few : (c : tie.After-decimal) → c .decimal .result ≤ 10
 few c = few-digits _ _ (c .decimal .ensures .1 .0) (omega (arith, c .before .before .before .fits .n))
 
-text-requires : tie.Need-text-requires
-text-requires c κs = omega (arith, few (c .before .before))
-
 returns : tie.Need-returns
 returns c =
     let made = c .before .before .before .before .before in
@@ -21,4 +18,8 @@ returns c =
     (rw (digits ∙ digits-decimal _ _ fewest) at written, omega (arith, few made, written .place))
 
 pub decimal-spec : {M : Type 1} → statement M
-decimal-spec = tie.close (tie.spec (search needs) (search needs) (search needs) text-requires (search needs) returns)
+decimal-spec =
+    tie.close (tie.spec
+    (search needs) (search needs)
+    (search needs) (λ c κs. omega (arith, few (c .before .before)))
+    (search needs) returns)

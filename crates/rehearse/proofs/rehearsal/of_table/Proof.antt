@@ -7,6 +7,7 @@ use lib.ListN.{length}
 use lib.Seq.{length-take-le}
 use mathlib.Core.Path.{_≡_, sym}
 use Rattle.rules.specs.Answers.{compiledRefusal}
+use Rattle.rules.specs.Limits.{recordBytes}
 use Rattle.salnegris.specs.Fields.{compiledFields}
 use Rattle.rehearse.proofs.Fields.{fields-line}
 use Rattle.rehearse.proofs.Tables.{compiled, line-refused, rehearse-accepted, code-fits}
@@ -18,16 +19,16 @@ accepted : (c : tie.Else1)
 unfolding compiledFields
 accepted c = rw (c .before .before .before .salnegris-compile .ensures .0) at (c .if1 .left)
 
-within : (c : tie.Else1)
-    → 8 * c .before .before .before .salnegris-compile .result .length ≤ length (c .before .before .before .salnegris-compile .last .1 .0)
+within : (c : tie.Else1) → let made = c .before .before .before .salnegris-compile in
+    recordBytes * made .result .length ≤ length (made .last .1 .0)
 unfolding compiledFields
 within c =
     let made = c .before .before .before .salnegris-compile in
     rw (made .ensures .0) (omega (arith, code-fits _ (accepted c), made .kept .1 .0))
 
-returns : tie.Need-returns
+refused : tie.Need-returns
 unfolding compiledFields
-returns c =
+refused c =
     let tested = c .before .before .before .before in
     let made = tested .before .before .before in
     let start = made .before .before .before .before .before .args in
@@ -35,27 +36,24 @@ returns c =
     let line = line-refused (start .status) (start .table .now) (start .schedule .now) (rw answer at (tested .if1 .taken)) in
     rw (answer, line) at (c .before .before .refused .ensures)
 
-array-share-prefix-code : tie.Need-array-share-prefix-code
-array-share-prefix-code c = within (c .before)
-
-slice-aggregate-salnegris-run : tie.Need-slice-aggregate-salnegris-run
-slice-aggregate-salnegris-run c = sym (length-take-le _ _ (within (c .before .before)))
-
-returns-2 : tie.Need-returns-2
+run : tie.Need-returns-2
 unfolding compiledFields
-returns-2 c =
-    let run = c .before .before .before .before .before in
-    let tested = run .before .before .before .before in
+run c =
+    let ran = c .before .before .before .before .before in
+    let tested = ran .before .before .before .before in
     let made = tested .before .before .before in
     let start = made .before .before .before .before .before .args in
     let (answer, leaves) = made .salnegris-compile .ensures in
     let rehearsed = rehearse-accepted (start .status) (start .table .now) (start .schedule .now) (accepted tested) in
-    let ran = rw (answer, leaves, rehearsed) at (run .salnegris-run .ensures .0) in
-    rw (ran, fields-line) at (c .before .before .answer .ensures)
+    let fields = rw (answer, leaves, rehearsed) at (ran .salnegris-run .ensures .0) in
+    rw (fields, fields-line) at (c .before .before .answer .ensures)
 
 pub of-table-spec : {M : Type 1} → statement M
 of-table-spec =
     tie.close (tie.spec
-    (search needs) (search needs) (search needs) (search needs) returns
-    (search needs) (search needs) array-share-prefix-code slice-aggregate-salnegris-run (search needs) (search needs)
-    (search needs) (search needs) returns-2)
+    (search needs) (search needs)
+    (search needs) (search needs) refused
+    (search needs) (search needs)
+    (λ c. within (c .before)) (λ c. sym (length-take-le _ _ (within (c .before .before))))
+    (search needs) (search needs)
+    (search needs) (search needs) run)
