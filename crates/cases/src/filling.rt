@@ -1,4 +1,5 @@
-// The bytes that a line gives, appended to lent bytes of which the first `used` are in use. Each answer is how many are in use then.
+// The bytes that a line gives, appended to lent bytes of which the first `used` are in use. Each answer is how many are in use
+// then.
 
 use super::reading;
 use super::reading::Meaning;

@@ -5,13 +5,9 @@ use lib.ListN.{length}
 use Rattle.cases.proofs.buffer.all.Statement.{statement}
 use Rattle.cases.proofs.buffer.all.Tie as tie
 
-abbrev Inv-loop : tie.InvT-loop
-Inv-loop bytes value i₀ i = Unit
-
-abbrev μ-loop : tie.MeasureT-loop
-μ-loop bytes value i₀ i = length bytes - i
-
 pub all-spec : {M : Type 1} → statement M
 all-spec =
-    tie.close (tie.spec Inv-loop μ-loop
+    tie.close (tie.spec
+    (λ bytes value i₀ i. Unit)
+    (λ bytes value i₀ i. length bytes - i)
     (search needs) (search needs) (search needs) (search needs) (search needs) (search needs) (search needs))

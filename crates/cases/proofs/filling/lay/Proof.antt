@@ -6,14 +6,10 @@ use mathlib.Core.Path.{_≡_}
 use Rattle.cases.proofs.filling.lay.Statement.{statement}
 use Rattle.cases.proofs.filling.lay.Tie as tie
 
-abbrev Inv-loop : tie.InvT-loop
-Inv-loop words bytes₀ used to₀ left₀ turn₀ bytes to left turn = length bytes ≡ length bytes₀
-
-abbrev μ-loop : tie.MeasureT-loop
-μ-loop words bytes₀ used to₀ left₀ turn₀ bytes to left turn = length words - turn
-
 pub lay-spec : {M : Type 1} → statement M
 lay-spec =
-    tie.close (tie.spec Inv-loop μ-loop
+    tie.close (tie.spec
+    (λ words bytes₀ used to₀ left₀ turn₀ bytes to left turn. length bytes ≡ length bytes₀)
+    (λ words bytes₀ used to₀ left₀ turn₀ bytes to left turn. length words - turn)
     (search needs) (search needs) (search needs) (search needs) (search needs) (search needs) (search needs) (search needs)
     (search needs) (search needs) (search needs) (search needs) (search needs))

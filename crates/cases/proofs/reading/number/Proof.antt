@@ -5,14 +5,10 @@ use lib.ListN.{length}
 use Rattle.cases.proofs.reading.number.Statement.{statement}
 use Rattle.cases.proofs.reading.number.Tie as tie
 
-abbrev Inv-loop : tie.InvT-loop
-Inv-loop word n₀ i₀ n i = Unit
-
-abbrev μ-loop : tie.MeasureT-loop
-μ-loop word n₀ i₀ n i = length word - i
-
 pub number-spec : {M : Type 1} → statement M
 number-spec =
-    tie.close (tie.spec Inv-loop μ-loop
+    tie.close (tie.spec
+    (λ word n₀ i₀ n i. Unit)
+    (λ word n₀ i₀ n i. length word - i)
     (search needs) (search needs) (search needs) (search needs) (search needs) (search needs) (search needs) (search needs)
     (search needs) (search needs) (search needs) (search needs))

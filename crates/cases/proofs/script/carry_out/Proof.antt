@@ -6,14 +6,11 @@ use mathlib.Core.Path.{_≡_}
 use Rattle.cases.proofs.script.carry_out.Statement.{statement}
 use Rattle.cases.proofs.script.carry_out.Tie as tie
 
-abbrev Inv-loop : tie.InvT-loop
-Inv-loop text bytes₀ recalls₀ case₀ at₀ number₀ bytes recalls case at number = (number ≤ at + 1) × ((length bytes ≡ length bytes₀) × (length recalls ≡ length recalls₀))
-
-abbrev μ-loop : tie.MeasureT-loop
-μ-loop text bytes₀ recalls₀ case₀ at₀ number₀ bytes recalls case at number = length text + 1 - at
-
 pub carry-out-spec : {M : Type 1} → statement M
 carry-out-spec =
-    tie.close (tie.spec Inv-loop μ-loop
+    tie.close (tie.spec
+    (λ text bytes₀ recalls₀ case₀ at₀ number₀ bytes recalls case at number.
+    (number ≤ at + 1) × (length bytes ≡ length bytes₀) × (length recalls ≡ length recalls₀))
+    (λ text bytes₀ recalls₀ case₀ at₀ number₀ bytes recalls case at number. length text + 1 - at)
     (search needs) (search needs) (search needs) (search needs) (search needs) (search needs) (search needs) (search needs)
     (search needs) (search needs) (search needs) (search needs) (search needs) (search needs) (search needs) (search needs))

@@ -5,13 +5,9 @@ use lib.ListN.{length}
 use Rattle.cases.proofs.show.code.Statement.{statement}
 use Rattle.cases.proofs.show.code.Tie as tie
 
-abbrev Inv-loop : tie.InvT-loop
-Inv-loop bytes i₀ i = Unit
-
-abbrev μ-loop : tie.MeasureT-loop
-μ-loop bytes i₀ i = length bytes - i
-
 pub code-spec : {M : Type 1} → statement M
 code-spec =
-    tie.close (tie.spec Inv-loop μ-loop
+    tie.close (tie.spec
+    (λ bytes i₀ i. Unit)
+    (λ bytes i₀ i. length bytes - i)
     (search needs) (search needs) (search needs) (search needs) (search needs) (search needs) (search needs))
