@@ -50,7 +50,8 @@ module _ {code : List Instruction} {asks : Placing} where
       record { steps = steps; later = omega arith; reached = reached; height = height; left = refl; size = refl; beyond = refl }
 
   pub joined : {stack₀ stack₁ stack₂ : List ℕ} {start middle m : Machine}
-      → Underway code asks stack₀ stack₁ start middle → Underway code asks stack₁ stack₂ middle m → Underway code asks stack₀ stack₂ start m
+      → Underway code asks stack₀ stack₁ start middle → Underway code asks stack₁ stack₂ middle m → Underway code asks stack₀
+      stack₂ start m
   joined first second = record {
     steps = second .steps;
     later = omega (arith, first .later, second .later);
@@ -61,7 +62,8 @@ module _ {code : List Instruction} {asks : Placing} where
     beyond = second .beyond ∙ first .beyond;
   }
 
-module _ {code : List Instruction} {asks : Placing} {stack₀ stack : List ℕ} {start m : Machine} (so-far : Underway code asks stack₀ stack start m) where
+module _ {code : List Instruction} {asks : Placing} {stack₀ stack : List ℕ} {start m : Machine}
+    (so-far : Underway code asks stack₀ stack start m) where
   -- the run is underway at a later state too
   abbrev pub GoesOn : List ℕ → Machine → Type 0
   GoesOn after next = (m .steps < next .steps) × Underway code asks stack₀ after start next
@@ -82,7 +84,8 @@ module _ {code : List Instruction} {asks : Placing} {stack₀ stack : List ℕ} 
         let none : stepLimit - m .steps ≡ 0 = omega (arith, e) in
         sym (run-limit code asks (stateOf stack m) one) ∙ rw none at (so-far .left)
 
-    pub goes-on : (m .steps ≡ stepLimit → ⊥) → {after : List ℕ} {next : Machine} → step code asks (stateOf stack m) ≡ Next (stateOf after next)
+    pub goes-on : (m .steps ≡ stepLimit → ⊥) → {after : List ℕ} {next : Machine}
+        → step code asks (stateOf stack m) ≡ Next (stateOf after next)
         → length after ≡ length stack → drop stackBytes after ≡ drop stackBytes stack → GoesOn after next
     goes-on left {after} {next} e size beyond =
         let counts = rw e at one in
@@ -102,10 +105,12 @@ module _ {code : List Instruction} {asks : Placing} {stack₀ stack : List ℕ} 
 -- ---- the rule, by what the machine does
 
 module _ (code : List Instruction) (asks : Placing) (stack : List ℕ) (m : Machine) where
-  pub step-running : m .unwinding ≡ false → step code asks (stateOf stack m) ≡ stepAt asks (stateOf stack m) (m .address) (getElem? code (m .address))
+  pub step-running : m .unwinding ≡ false
+      → step code asks (stateOf stack m) ≡ stepAt asks (stateOf stack m) (m .address) (getElem? code (m .address))
   unfolding step stepIn
   step-running e = rw e
 
-  pub step-unwinding : m .unwinding ≡ true → step code asks (stateOf stack m) ≡ unwind (stateOf stack m) (itemsOf stack (m .height))
+  pub step-unwinding : m .unwinding ≡ true
+      → step code asks (stateOf stack m) ≡ unwind (stateOf stack m) (itemsOf stack (m .height))
   unfolding step stepIn
   step-unwinding e = rw e

@@ -53,7 +53,10 @@ accepted table e =
       some = size .some;
       few = omega (arith, size .few);
       falling = λ j h. passed-below table j (lowest-none (nodeTest table) (records table) j h walked);
-      once = λ j h. eqb-true _ _ (unless-passed _ _ _ (lowest-none (useTest table) (records table - 1) j (omega arith) (first-none _ _ last .0)));
+      once =
+          λ j h.
+          eqb-true _ _
+          (unless-passed _ _ _ (lowest-none (useTest table) (records table - 1) j (omega arith) (first-none _ _ last .0)));
     }
 
 -- ---- a node
@@ -88,7 +91,8 @@ module _ (table : List ℕ) {n : ℕ} (answer : checkAnswer tableTests table ≡
   last-node =
       let (passed, all) = check-accepted tableTests table answer in
       let table-accepted = accepted table passed in
-      (omega (arith, all, table-accepted .some), record { accepted = table-accepted; within = omega (arith, all, table-accepted .some) })
+      let some : 1 ≤ n = omega (arith, all, table-accepted .some) in
+      (some, record { accepted = table-accepted; within = omega (arith, all) })
 
   pub last-recipe : expressionAt table (n - 1) ≡ recipe table
   unfolding recipe
