@@ -27,7 +27,8 @@ use Rattle.rules.specs.declared.Outcome.{Outcome}
 use Rattle.rules.specs.declared.Outcome.the-variants.{Refused}
 use Rattle.rules.specs.declared.Refusal.{Refusal}
 use Rattle.rules.specs.declared.Status.{Status}
-use Rattle.rules.proofs.Step.Addresses.{Within, Bounded, bounded-accepted, step-within}
+use Rattle.rules.proofs.Step.Addresses.{Within, Bounded, step-within}
+use Rattle.rules.proofs.Bytes.AcceptedCode.{bounded-accepted}
 use Rattle.rules.proofs.Bytes.Answered.{compile-passed, compile-refused, run-passed, run-refused}
 use Rattle.rules.proofs.Bytes.Instructions.{length-instructions}
 use Rattle.rules.proofs.Step.Order.{run-next, run-stuck, run-limit-next, run-limit-stuck, run-over}

@@ -1,39 +1,28 @@
--- No run of accepted code comes to an address past its length: test 12 keeps every target within it (document 01, "Refusal
--- numbers"), and an instruction goes on at most one past itself.
+-- Where a run can come to: an instruction goes on one past itself or at its target, a throw at a handler, and a handler is the
+-- target of a MARK.
 --
---   Within             a state whose address, and each handler's, is at most n
---   Bounded            a code whose targets are at most n
---   bounded-accepted   so are those of a code that the tests 9 to 12 let pass
---   step-within        a step keeps a state within
---   never-past         and so does a run
+--   Within         a state whose address, and each handler's, is at most n
+--   Bounded        a code whose targets are at most n
+--   step-within    a step keeps a state within
+--   meets-within   and so does a run
 --
 -- Assumes nothing.
-use Prim.Native.Nat.{ℕ, zero, suc, _*_, _≤_, _<_}
-use native.Mathlib.Decide.{decLt}
+use Prim.Native.Nat.{ℕ, _≤_, _<_}
 use native.Mathlib.Omega.{arith}
-use borrow.Author.Tests.{leb-true}
-use lib.Dec.{ltb, leb}
+use lib.Dec.{ltb}
 use lib.ListN.{length, getElem?}
-use mathlib.Core.Bool.{true, _&&_, and-eq-true-iff}
 use mathlib.Core.List.{List, [], _∷_}
 use mathlib.Core.Option.{Option, none, some}
 use mathlib.Core.Path.{_≡_, refl}
-use Rattle.rules.specs.Bytes.{byteAt, records, rowNumbered}
-use Rattle.rules.specs.CodeBytes.{OpcodeRow, opcodes, opcodeNumbered, opcodeAt, operandAt, instructionAt, instructions}
-use Rattle.rules.specs.CodeBytes.{targetFits, instructionTest, codeTests}
-use Rattle.rules.specs.Limits.{recordBytes, itemLimit}
-use Rattle.rules.specs.Machine.{State, Mode, Running, Unwinding, Step, Placing, Next, Over, Stuck, fresh, push, execute, cuts, atInstruction, atLength, withNothing, unwind, stepAt, stepIn, step}
-use Rattle.rules.specs.Refusals.{firstRefusal}
+use Rattle.rules.specs.Demand.{Meets, here, later}
+use Rattle.rules.specs.Limits.{itemLimit}
+use Rattle.rules.specs.Machine.{State, Mode, Running, Unwinding, Step, Placing, Next, Over, Stuck, push, execute, cuts, atInstruction, atLength, withNothing, unwind, stepAt, stepIn, step}
 use Rattle.rules.specs.declared.Instruction.{Instruction}
 use Rattle.rules.specs.declared.Instruction.the-variants.{Push, Throw, Add, Pop, Mark, Unmark, Set, Reset}
 use Rattle.rules.specs.declared.Item.{Item}
 use Rattle.rules.specs.declared.Item.the-variants.{Number, Handler, Saved}
-use Rattle.rules.specs.declared.Reason.{Reason}
 use Rattle.rules.specs.declared.Status.{Status}
-use Rattle.rules.proofs.Bytes.Instructions.{length-instructions, instruction-found}
-use Rattle.rules.proofs.Lists.{missing-past}
-use Rattle.rules.proofs.Theory.Path.{Path, done, _▸_}
-use Rattle.rules.proofs.Refusals.{unless-passed, first-none, lowest-none}
+use Rattle.rules.proofs.Lists.{below-found}
 use Rattle.rules.proofs.Step.Ways.{either, with-number, with-handler, with-saved}
 
 -- ---- states and codes within n
@@ -76,12 +65,6 @@ handlers-cons : (n : ℕ) (item : Item) (rest : List Item) → Handlers n (item 
 handlers-cons n (Number k) rest h = h
 handlers-cons n (Handler a) rest h = h .1
 handlers-cons n (Saved i) rest h = h
-
-inside : (code : List Instruction) (a : ℕ) {x : Instruction} → getElem? code a ≡ some x → a < length code
-inside code a e = elim (decLt a (length code)) [
-  | yes below ↦ below
-  | no past ↦ let never : _≡_ {A = ℕ} 0 1 = cc (e, missing-past code a (omega (arith, past))) in absurd (omega arith)
-]
 
 module _ (n : ℕ) (s : State) (within : Handlers n (s .items)) where
   tail : {item : Item} {rest : List Item} → s .items ≡ item ∷ rest → Handlers n rest
@@ -137,7 +120,7 @@ module _ (n : ℕ) (s : State) (within : Handlers n (s .items)) where
       → getElem? code a ≡ found → Keeps n (stepAt asks s a found)
   unfolding stepAt
   step-at code bounded l asks a none e = at-length a
-  step-at code bounded l asks a (some x) e = at-instruction asks x a (omega (arith, inside code a e)) (bounded .targets a x e)
+  step-at code bounded l asks a (some x) e = at-instruction asks x a (omega (arith, below-found code a e)) (bounded .targets a x e)
 
   step-in : (code : List Instruction) → Bounded n code → length code ≤ n → (asks : Placing) (m : Mode) → Keeps n (stepIn code asks s m)
   unfolding stepIn
@@ -149,56 +132,6 @@ module _ {n : ℕ} {code : List Instruction} (bounded : Bounded n code) (long : 
   unfolding step
   step-within {s} within e = rw e at (step-in n s (within .handlers) code bounded long asks (s .mode))
 
-  path-within : {room : ℕ} {s next : State} → Within n s → Path code asks room s next → Within n next
-  path-within within done = within
-  path-within within (g ▸ later) = path-within (step-within within (g .taken)) later
-
--- ---- accepted code
-
--- an opcode of document 01's list, whose operand has passed test 12
-abbrev Row : ℕ → ℕ → ℕ → Option OpcodeRow → Type 0
-Row word a n none = Unit
-Row word a n (some row) = targetFits (row .operand) word a n ≡ true → TargetWithin n (row .instruction word)
-
-target-low : (word a n : ℕ) → ltb a word && leb word n ≡ true → word ≤ n
-target-low word a n fits = leb-true word n (and-eq-true-iff (ltb a word) (leb word n) .0 fits .1)
-
-rows : (word a n opcode : ℕ) → Row word a n (opcodeNumbered opcode)
-unfolding opcodes rowNumbered targetFits
-rows word a n zero = tt
-rows word a n (suc zero) = λ fits. tt
-rows word a n (suc (suc zero)) = λ fits. tt
-rows word a n (suc (suc (suc zero))) = λ fits. tt
-rows word a n (suc (suc (suc (suc zero)))) = λ fits. tt
-rows word a n (suc (suc (suc (suc (suc zero))))) = target-low word a n
-rows word a n (suc (suc (suc (suc (suc (suc zero)))))) = target-low word a n
-rows word a n (suc (suc (suc (suc (suc (suc (suc zero))))))) = λ fits. tt
-rows word a n (suc (suc (suc (suc (suc (suc (suc (suc zero)))))))) = λ fits. tt
-rows word a n (suc (suc (suc (suc (suc (suc (suc (suc (suc k))))))))) = tt
-
-module _ (bytes : List ℕ) (a : ℕ) where
-  by-row : (o : Option OpcodeRow) → opcodeAt bytes a ≡ o → instructionTest bytes a ≡ none → TargetWithin (records bytes) (instructionAt bytes a)
-  unfolding opcodeAt instructionAt instructionTest
-  by-row none e test = rw (e, instructionAt) tt
-  by-row (some row) e test =
-      let fields = first-none _ _ (rw (e, instructionTest) at test) .1 in
-      let fits = unless-passed (targetFits (row .operand) (operandAt bytes a) a (records bytes)) Reason.Target a (first-none _ _ fields .0) in
-      let target = rw e at (rows (operandAt bytes a) a (records bytes) (byteAt bytes (recordBytes * a))) in
-      rw (e, instructionAt) (target fits)
-
-module _ (bytes : List ℕ) (passed : firstRefusal (codeTests bytes) ≡ none) where
-  tested : (a : ℕ) → a < records bytes → instructionTest bytes a ≡ none
-  unfolding codeTests
-  tested a h = lowest-none (instructionTest bytes) (records bytes) a h (first-none _ _ (first-none _ _ passed .1) .0)
-
-  pub bounded-accepted : Bounded (records bytes) (instructions bytes)
-  bounded-accepted = record {
-    targets = λ a x e.
-        let below : a < records bytes = rw (length-instructions bytes) at (inside (instructions bytes) a e) in
-        let same : instructionAt bytes a ≡ x = cc (instruction-found bytes a below, e) in
-        rw same at (by-row bytes a (opcodeAt bytes a) refl (tested a below));
-  }
-
-  pub never-past : (asks : Placing) (i : Status) {room : ℕ} {s : State} → Path (instructions bytes) asks room (fresh i) s → Within (records bytes) s
-  never-past asks i path =
-      path-within bounded-accepted (rw (length-instructions bytes) (omega arith)) asks (record { address = omega arith; handlers = tt }) path
+  pub meets-within : {s met : State} → Within n s → Meets code asks s met → Within n met
+  meets-within within here = within
+  meets-within within (later e meets) = meets-within (step-within within e) meets

@@ -1,0 +1,65 @@
+-- No run of accepted code comes to an address past its length: test 12 keeps every target within it (document 01, "Refusal
+-- numbers").
+--
+--   bounded-accepted   the targets of a code that the tests 9 to 12 let pass are at most its length
+--   never-past         so is every address that a run of it comes to, and every handler's
+--
+-- Assumes nothing.
+use Prim.Native.Nat.{ℕ, _≤_, _<_}
+use native.Mathlib.Omega.{arith}
+use borrow.Author.Tests.{leb-true}
+use lib.Dec.{ltb, leb}
+use mathlib.Core.Bool.{true, _&&_, and-eq-true-iff}
+use mathlib.Core.List.{List}
+use mathlib.Core.Option.{Option, none, some}
+use mathlib.Core.Path.{_≡_, refl}
+use Rattle.rules.specs.Bytes.{records}
+use Rattle.rules.specs.CodeBytes.{OpcodeRow, opcodes, opcodeNumbered, opcodeAt, operandAt, instructionAt, instructions}
+use Rattle.rules.specs.CodeBytes.{targetFits, instructionTest, codeTests}
+use Rattle.rules.specs.Demand.{Meets}
+use Rattle.rules.specs.Machine.{State, fresh, Placing}
+use Rattle.rules.specs.Refusals.{firstRefusal}
+use Rattle.rules.specs.declared.Reason.{Reason}
+use Rattle.rules.specs.declared.Status.{Status}
+use Rattle.rules.proofs.Bytes.Instructions.{length-instructions, instruction-found}
+use Rattle.rules.proofs.Lists.{below-found, done, _▸_, each-row}
+use Rattle.rules.proofs.Refusals.{unless-passed, first-none, lowest-none}
+use Rattle.rules.proofs.Step.Addresses.{Within, TargetWithin, Bounded, meets-within}
+
+target-low : (word a n : ℕ) → ltb a word && leb word n ≡ true → word ≤ n
+target-low word a n fits = leb-true word n (and-eq-true-iff (ltb a word) (leb word n) .0 fits .1)
+
+-- of each opcode of document 01's list
+target-within : (word a n opcode : ℕ) {row : OpcodeRow} → opcodeNumbered opcode ≡ some row → targetFits (row .operand) word a n ≡ true
+    → TargetWithin n (row .instruction word)
+unfolding opcodes targetFits
+target-within word a n =
+    let low = target-low word a n in
+    each-row (λ opcode row. targetFits (row .operand) word a n ≡ true → TargetWithin n (row .instruction word)) opcodes
+    ((λ e. tt) ▸ (λ e. tt) ▸ (λ e. tt) ▸ (λ e. tt) ▸ low ▸ low ▸ (λ e. tt) ▸ (λ e. tt) ▸ done)
+
+module _ (bytes : List ℕ) (a : ℕ) where
+  instruction-within : (opcode : Option OpcodeRow) → opcodeAt bytes a ≡ opcode → instructionTest bytes a ≡ none → TargetWithin (records bytes) (instructionAt bytes a)
+  unfolding opcodeAt instructionAt instructionTest
+  instruction-within none e test = rw (e, instructionAt) tt
+  instruction-within (some row) e test =
+      let fields = first-none _ _ (rw (e, instructionTest) at test) .1 in
+      let fits = unless-passed (targetFits (row .operand) (operandAt bytes a) a (records bytes)) Reason.Target a (first-none _ _ fields .0) in
+      rw (e, instructionAt) (target-within _ a (records bytes) _ e fits)
+
+module _ (bytes : List ℕ) (passed : firstRefusal (codeTests bytes) ≡ none) where
+  tested : (a : ℕ) → a < records bytes → instructionTest bytes a ≡ none
+  unfolding codeTests
+  tested a h = lowest-none (instructionTest bytes) (records bytes) a h (first-none _ _ (first-none _ _ passed .1) .0)
+
+  pub bounded-accepted : Bounded (records bytes) (instructions bytes)
+  bounded-accepted = record {
+    targets = λ a x e.
+        let below : a < records bytes = rw (length-instructions bytes) at (below-found (instructions bytes) a e) in
+        let same : instructionAt bytes a ≡ x = cc (instruction-found bytes a below, e) in
+        rw same at (instruction-within bytes a (opcodeAt bytes a) refl (tested a below));
+  }
+
+  pub never-past : (placing : Placing) (i : Status) {s : State} → Meets (instructions bytes) placing (fresh i) s → Within (records bytes) s
+  never-past placing i meets =
+      meets-within bounded-accepted (rw (length-instructions bytes) (omega arith)) placing (record { address = omega arith; handlers = tt }) meets
