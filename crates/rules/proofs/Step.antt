@@ -1,6 +1,6 @@
 -- One step of the machine, and a run.
 --
---   Ways        a fact of each way on from a state is one of the step
+--   Effects     what a step does to a state, by a few cases
 --   Order       the rules for a step and a run, in their order
 --   Counted     a step that is taken counts one
 --   Addresses   where a run can come to
@@ -8,5 +8,5 @@
 pub mod Addresses
 pub mod Bounds
 pub mod Counted
+pub mod Effects
 pub mod Order
-pub mod Ways
