@@ -4,7 +4,8 @@
 --   missing-past         from the length on nothing does
 --   below-found          so what stands somewhere stands below the length
 --   found-getD           what `getD` gives there
---   found-seam           where two lists meet
+--   found-front          of two lists, in the front one
+--   found-seam           and where they meet
 --
 -- A fact of each element and its number.
 --
@@ -54,6 +55,11 @@ module _ {A : Type 0} where
   found-getD [] k default h = absurd (omega arith)
   found-getD (x ∷ l) zero default h = refl
   found-getD (x ∷ l) (suc k) default h = found-getD l k default (omega arith)
+
+  pub found-front : (front back : List A) (k : ℕ) → k < length front → getElem? (front ++ back) k ≡ getElem? front k
+  found-front [] back k h = absurd (omega arith)
+  found-front (x ∷ front) back zero h = refl
+  found-front (x ∷ front) back (suc k) h = found-front front back k (omega arith)
 
   pub found-seam : (front : List A) (x : A) (back : List A) → getElem? (front ++ x ∷ back) (length front) ≡ some x
   found-seam [] x back = refl

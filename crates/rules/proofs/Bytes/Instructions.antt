@@ -8,33 +8,19 @@
 use Prim.Native.Nat.{ℕ, zero, suc, _≤_, _<_}
 use native.Mathlib.Decide.{decLt}
 use native.Mathlib.Omega.{arith}
-use lib.ListN.{length, getElem?}
-use mathlib.Core.List.{List, [], _∷_, _++_}
+use lib.ListN.{length, getElem?, length-append}
+use mathlib.Core.List.{List, [], _∷_}
 use mathlib.Core.Option.{none, some}
 use mathlib.Core.Path.{_≡_, refl, _∙_}
 use Rattle.rules.specs.Bytes.{records}
 use Rattle.rules.specs.CodeBytes.{instructionAt, instructionsBelow, instructions}
-use Rattle.rules.proofs.Lists.{missing-past, found-seam}
-
--- ---- a list with one more at its end
-
-module _ {A : Type 0} where
-  length-more : (front : List A) (x : A) → length (front ++ x ∷ []) ≡ suc (length front)
-  length-more [] x = refl
-  length-more (y ∷ front) x = rw (length-more front x)
-
-  found-front : (front back : List A) (k : ℕ) → k < length front → getElem? (front ++ back) k ≡ getElem? front k
-  found-front [] back k h = absurd (omega arith)
-  found-front (x ∷ front) back zero h = refl
-  found-front (x ∷ front) back (suc k) h = found-front front back k (omega arith)
-
--- ---- the instructions
+use Rattle.rules.proofs.Lists.{missing-past, found-front, found-seam}
 
 module _ (code : List ℕ) where
   length-below : (n : ℕ) → length (instructionsBelow code n) ≡ n
   unfolding instructionsBelow
   length-below zero = refl
-  length-below (suc n) = rw (length-more (instructionsBelow code n) (instructionAt code n), length-below n)
+  length-below (suc n) = simp (length-append, length-below n) (omega arith)
 
   found-last : (n : ℕ) → getElem? (instructionsBelow code (suc n)) n ≡ some (instructionAt code n)
   unfolding instructionsBelow
