@@ -1,9 +1,8 @@
 -- Looking up in a list.
 --
---   Found, found-below   below the length something stands
---   missing-past         from the length on nothing does
---   below-found          so what stands somewhere stands below the length
---   found-getD           what `getD` gives there
+--   missing-past         from the length on nothing stands
+--   below-found          so what stands somewhere stands below it
+--   found-getD           namely what `getD` gives
 --   found-front          of two lists, in the front one
 --   found-seam           and where they meet
 --
@@ -31,15 +30,6 @@ use mathlib.Core.Path.{_≡_, refl, sym, _∙_}
 use Rattle.rules.specs.Bytes.{rowNumbered}
 
 module _ {A : Type 0} where
-  pub record Found (l : List A) (k : ℕ) : Type 0 where
-    pub here : A
-    pub found : getElem? l k ≡ some here
-
-  pub found-below : (l : List A) (k : ℕ) → k < length l → Found l k
-  found-below [] k h = absurd (omega arith)
-  found-below (x ∷ l) zero h = record { here = x; found = refl }
-  found-below (x ∷ l) (suc k) h = let later = found-below l k (omega arith) in record { here = later .here; found = later .found }
-
   pub missing-past : (l : List A) (k : ℕ) → length l ≤ k → getElem? l k ≡ none
   missing-past [] k h = refl
   missing-past (x ∷ l) zero h = absurd (omega arith)
@@ -108,8 +98,12 @@ module _ {A : Type 0} where
 
   pub row-known : (rows : List A) (k : ℕ) → 1 ≤ k → k ≤ length rows → RowKnown rows k
   unfolding rowNumbered
-  row-known rows zero l h = absurd (omega arith)
-  row-known rows (suc k) l h = let here = found-below rows k (omega arith) in record { row = here .here; found = here .found }
+  row-known [] k l h = absurd (omega arith)
+  row-known (row ∷ rows) zero l h = absurd (omega arith)
+  row-known (row ∷ rows) (suc zero) l h = record { row = row; found = refl }
+  row-known (row ∷ rows) (suc (suc k)) l h =
+      let later = row-known rows (suc k) (omega arith) (omega arith) in
+      record { row = later .row; found = later .found }
 
   pub row-unknown : (rows : List A) (k : ℕ) → (1 ≤ k → k ≤ length rows → ⊥) → rowNumbered rows k ≡ none
   unfolding rowNumbered

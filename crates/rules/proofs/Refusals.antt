@@ -2,7 +2,6 @@
 --
 --   refused-not-passed              a test does not both pass and refuse
 --   unless-passed                   a test that refuses nothing has passed
---   first-passed, first-refused     a row of tests, by its first
 --   first-only                      a row of one
 --   rows-passed, rows-refused       a row of tests, by its front
 --   first-none                      where a row refuses nothing, its first refuses nothing, nor do the others
@@ -19,7 +18,7 @@ use native.Mathlib.Numerals.{add-one}
 use native.Mathlib.Omega.{arith}
 use mathlib.Core.Bool.{Bool, true, false}
 use mathlib.Core.List.{List, [], _∷_, _++_}
-use mathlib.Core.Option.{Option, none, some}
+use mathlib.Core.Option.{Option, none, some, Option·none-ne-some, Option·some-ne-none}
 use mathlib.Core.Path.{_≡_, refl, sym, _∙_}
 use Rattle.rules.specs.Refusals.{unless, firstRefusal, lowestRefusal}
 use Rattle.rules.specs.declared.Reason.{Reason}
@@ -28,7 +27,7 @@ use Rattle.rules.specs.declared.Refusal.{Refusal}
 -- ---- a test
 
 pub refused-not-passed : {A : Type 0} {r : Refusal} → some r ≡ none → A
-refused-not-passed e = let never : _≡_ {A = ℕ} 0 1 = cc in absurd (omega arith)
+refused-not-passed e = absurd (Option·some-ne-none _ e)
 
 pub unless-passed : (passed : Bool) (reason : Reason) (place : ℕ) → unless passed reason place ≡ none → passed ≡ true
 unfolding unless
@@ -36,15 +35,6 @@ unless-passed true reason place e = refl
 unless-passed false reason place e = refused-not-passed e
 
 -- ---- a row of tests
-
-module _ (test : Option Refusal) (tests : List (Option Refusal)) where
-  pub first-passed : test ≡ none → firstRefusal (test ∷ tests) ≡ firstRefusal tests
-  unfolding firstRefusal
-  first-passed e = rw e
-
-  pub first-refused : {r : Refusal} → test ≡ some r → firstRefusal (test ∷ tests) ≡ some r
-  unfolding firstRefusal
-  first-refused e = rw e
 
 pub first-only : (test : Option Refusal) → firstRefusal (test ∷ []) ≡ test
 unfolding firstRefusal
@@ -70,7 +60,7 @@ rows-passed (some r ∷ front) back e = refused-not-passed e
 
 pub rows-refused : (front back : List (Option Refusal)) {r : Refusal} → firstRefusal front ≡ some r → firstRefusal (front ++ back) ≡ some r
 unfolding firstRefusal
-rows-refused [] back e = let never : _≡_ {A = ℕ} 0 1 = cc in absurd (omega arith)
+rows-refused [] back e = absurd (Option·none-ne-some _ e)
 rows-refused (none ∷ front) back e = rows-refused front back e
 rows-refused (some s ∷ front) back e = e
 

@@ -22,7 +22,7 @@ use mathlib.Core.List.{List, [], _∷_}
 use mathlib.Core.Option.{Option, none, some}
 use mathlib.Core.Path.{_≡_, refl, ap, _∙_}
 use Rattle.rules.specs.Limits.{itemLimit}
-use Rattle.rules.specs.Machine.{State, Mode, Running, Unwinding, Placing, Step, Next, Over, Stuck, onward, unwound, noRule}
+use Rattle.rules.specs.Machine.{State, Mode, Running, Unwinding, Placing, Step, Over, Stuck, onward, unwound, noRule}
 use Rattle.rules.specs.Machine.{withNumber, withHandler, withSaved, withNothing, push, execute, cuts, atInstruction, atLength}
 use Rattle.rules.specs.Machine.{unwind, stepAt, stepIn, step}
 use Rattle.rules.specs.declared.End.{End}
