@@ -59,11 +59,11 @@ unwound-counted s items some few = removed-counted some few (unwound-effect s it
 
 -- ---- the limit
 
-module _ (code : List Instruction) (asks : Placing) (s : State) where
-  limit-by : (x : Step) → step code asks s ≡ x → Counted s x → run code asks zero s ≡ answer s tooManySteps
-  limit-by (Next next) e counted = run-limit-next code asks s e
+module _ (code : List Instruction) (placing : Placing) (s : State) where
+  limit-by : (x : Step) → step code placing s ≡ x → Counted s x → run code placing zero s ≡ answer s tooManySteps
+  limit-by (Next next) e counted = run-limit-next code placing s e
   limit-by (Over o) e counted = absurd counted
-  limit-by (Stuck r) e counted = run-limit-stuck code asks s e
+  limit-by (Stuck r) e counted = run-limit-stuck code placing s e
 
-  pub run-limit : Counted s (step code asks s) → run code asks zero s ≡ answer s tooManySteps
-  run-limit counted = limit-by (step code asks s) refl counted
+  pub run-limit : Counted s (step code placing s) → run code placing zero s ≡ answer s tooManySteps
+  run-limit counted = limit-by (step code placing s) refl counted

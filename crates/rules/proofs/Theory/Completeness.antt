@@ -71,9 +71,9 @@ length-bits (INT {e = e}) rest = omega (arith, nodes-pos e)
 
 -- ---- placings that read them
 
-pub data Reads (asks : Placing) : ℕ → List Bool → Type 0 where
-  none : {r : ℕ} → Reads asks r []
-  bit : {r : ℕ} {b : Bool} {rest : List Bool} → asks r ≡ b → Reads asks (r + 1) rest → Reads asks r (b ∷ rest)
+pub data Reads (placing : Placing) : ℕ → List Bool → Type 0 where
+  none : {r : ℕ} → Reads placing r []
+  bit : {r : ℕ} {b : Bool} {rest : List Bool} → placing r ≡ b → Reads placing (r + 1) rest → Reads placing r (b ∷ rest)
 
 calmly : (i : Status) {asked : Bool} → asked ≡ false → cuts i asked ≡ false
 unfolding cuts
@@ -82,17 +82,17 @@ calmly Unblocked e = e
 
 -- ---- how far a run has come: `u` is the state but for the counts
 
-module _ (code : List Instruction) (asks : Placing) (room : ℕ) where
+module _ (code : List Instruction) (placing : Placing) (room : ℕ) where
   pub data Comes (from : State) (u : ℕ → ℕ → State) (row : List Bool) : Type 0 where
-    by : {t r : ℕ} → Path code asks room from (u t r) → Reads asks r row → Comes from u row
+    by : {t r : ℕ} → Path code placing room from (u t r) → Reads placing r row → Comes from u row
 
-module _ {code : List Instruction} {asks : Placing} {room : ℕ} {from : State} {u w : ℕ → ℕ → State} (row : List Bool) where
+module _ {code : List Instruction} {placing : Placing} {room : ℕ} {from : State} {u w : ℕ → ℕ → State} (row : List Bool) where
   -- an instruction carried out
-  carry : ((t r : ℕ) → asks r ≡ false → Goes code asks room (u t r) (w (t + 1) (r + 1))) → Comes code asks room from u (false ∷ row) → Comes code asks room from w row
+  carry : ((t r : ℕ) → placing r ≡ false → Goes code placing room (u t r) (w (t + 1) (r + 1))) → Comes code placing room from u (false ∷ row) → Comes code placing room from w row
   carry g (by {t = t} {r = r} path (bit e reads)) = by (path ▹ g t r e ▸ done) reads
 
   -- an item removed in unwinding
-  undo : ((t r : ℕ) → Goes code asks room (u t r) (w (t + 1) r)) → Comes code asks room from u row → Comes code asks room from w row
+  undo : ((t r : ℕ) → Goes code placing room (u t r) (w (t + 1) r)) → Comes code placing room from u row → Comes code placing room from w row
   undo g (by {t = t} {r = r} path reads) = by (path ▹ g t r ▸ done) reads
 
 -- the first instruction of an expression
@@ -111,15 +111,15 @@ abbrev pub arrival : End → ℕ → Status → List Item → ℕ → ℕ → St
 arrival (End.Number n) b i s = running b i (Number n ∷ s)
 arrival End.Throw b i s = unwinding i s
 
-module _ {code : List Instruction} {asks : Placing} {room : ℕ} {from : State} (small : room ≤ itemLimit) where
+module _ {code : List Instruction} {placing : Placing} {room : ℕ} {from : State} (small : room ≤ itemLimit) where
   recalled : {a b : ℕ} {e : Expression} {s : List Item} (row : List Bool) → Holds code a e b → length s ≤ room
-      → Comes code asks room from (running a Unblocked s) (true ∷ row) → Comes code asks room from (unwinding Unblocked s) row
+      → Comes code placing room from (running a Unblocked s) (true ∷ row) → Comes code placing room from (unwinding Unblocked s) row
   unfolding cuts
   recalled row h f (by path (bit e reads)) = by (path ▹ cut (first h .1) e f ▸ done) reads
 
   -- RESET after a number, a saved status restored after a throw
   leave : (v : End) (i j : Status) (s : List Item) (row : List Bool) {b : ℕ} → Has code b Instruction.Reset → suc (length s) ≤ room
-      → Comes code asks room from (arrival v b j (Saved i ∷ s)) (resetBits v row) → Comes code asks room from (arrival v (b + 1) i s) row
+      → Comes code placing room from (arrival v b j (Saved i ∷ s)) (resetBits v row) → Comes code placing room from (arrival v (b + 1) i s) row
   unfolding resetBits execute withNumber withSaved
   leave (End.Number n) i j s row reset f p = carry row (λ t r e. go reset (calmly j e) refl f) p
   leave End.Throw i j s row reset f p = let f₀ : length s ≤ room = omega arith in undo row (λ t r. restore f₀) p
@@ -127,14 +127,14 @@ module _ {code : List Instruction} {asks : Placing} {room : ℕ} {from : State} 
   -- SET j, x, RESET: what Block and Unblock have in common
   within : (v : End) (i j : Status) (s : List Item) (inside row : List Bool) {a b : ℕ} → Has code a (Instruction.Set j) → Has code b Instruction.Reset
       → suc (length s) ≤ room
-      → (Comes code asks room from (running (a + 1) j (Saved i ∷ s)) inside → Comes code asks room from (arrival v b j (Saved i ∷ s)) (resetBits v row))
-      → Comes code asks room from (running a i s) (false ∷ inside) → Comes code asks room from (arrival v (b + 1) i s) row
+      → (Comes code placing room from (running (a + 1) j (Saved i ∷ s)) inside → Comes code placing room from (arrival v b j (Saved i ∷ s)) (resetBits v row))
+      → Comes code placing room from (running a i s) (false ∷ inside) → Comes code placing room from (arrival v (b + 1) i s) row
   unfolding execute
   within v i j s inside row set reset f inner p =
       leave v i j s row reset f (inner (carry inside (λ t r e. pushes small set (calmly i e) refl f) p))
 
   pub arrives : {e : Expression} {i : Status} {v : End} (d : Gives e i v) {a b : ℕ} → Holds code a e b → (s : List Item) → length s + nodes e ≤ room
-      → (row : List Bool) → Comes code asks room from (running a i s) (bits d row) → Comes code asks room from (arrival v b i s) row
+      → (row : List Bool) → Comes code placing room from (running a i s) (bits d row) → Comes code placing room from (arrival v b i s) row
   unfolding nodes bits execute withNumber withHandler withSaved
   arrives (VAL {i = i}) (val h) s f row p =
       let f₁ : suc (length s) ≤ room = omega arith in
