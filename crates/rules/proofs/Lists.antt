@@ -84,11 +84,11 @@ abbrev pub NoneOf : ℕ → ℕ → Type 0
 NoneOf k zero = Unit
 NoneOf k (suc n) = NoneOf k n × (k ≡ suc n → ⊥)
 
-none-of : (k n : ℕ) → NoneOf k n → 1 ≤ k → k ≤ n → ⊥
-none-of k zero other l h = omega arith
-none-of k (suc n) other l h = elim (decLt n k) [
+none-of-outside : (k n : ℕ) → NoneOf k n → 1 ≤ k → k ≤ n → ⊥
+none-of-outside k zero other l h = omega arith
+none-of-outside k (suc n) other l h = elim (decLt n k) [
   | yes last ↦ other .1 (omega arith)
-  | no before ↦ none-of k n (other .0) l (omega arith)
+  | no before ↦ none-of-outside k n (other .0) l (omega arith)
 ]
 
 module _ {A : Type 0} where
@@ -114,7 +114,7 @@ module _ {A : Type 0} where
   ]
 
   pub row-none-of : (rows : List A) (k : ℕ) → NoneOf k (length rows) → rowNumbered rows k ≡ none
-  row-none-of rows k other = row-unknown rows k (none-of k (length rows) other)
+  row-none-of rows k other = row-unknown rows k (none-of-outside k (length rows) other)
 
   pub each-row : (P : ℕ → A → Type 0) (rows : List A) → EachFrom P 1 rows → (k : ℕ) {row : A} → rowNumbered rows k ≡ some row → P k row
   unfolding rowNumbered

@@ -105,13 +105,13 @@ module _ (test : ℕ → Option Refusal) where
   lowest-all (suc n) each = lowest-suc n (lowest-all n λ j low. each j (omega arith)) ∙ each n (omega arith)
 
 module _ (test other : ℕ → Option Refusal) where
-  same-next : (n : ℕ) (o : Option Refusal) → lowestRefusal other n ≡ o → lowestRefusal test n ≡ o → test n ≡ other n
+  lowest-same-next : (n : ℕ) (o : Option Refusal) → lowestRefusal other n ≡ o → lowestRefusal test n ≡ o → test n ≡ other n
       → lowestRefusal test (suc n) ≡ lowestRefusal other (suc n)
-  same-next n none e f here = lowest-suc test n f ∙ here ∙ sym (lowest-suc other n e)
-  same-next n (some r) e f here = lowest-kept test n f ∙ sym (lowest-kept other n e)
+  lowest-same-next n none e f here = lowest-suc test n f ∙ here ∙ sym (lowest-suc other n e)
+  lowest-same-next n (some r) e f here = lowest-kept test n f ∙ sym (lowest-kept other n e)
 
   pub lowest-same : (n : ℕ) → ((j : ℕ) → j < n → test j ≡ other j) → lowestRefusal test n ≡ lowestRefusal other n
   unfolding lowestRefusal
   lowest-same zero same = refl
   lowest-same (suc n) same =
-      same-next n (lowestRefusal other n) refl (lowest-same n (λ j h. same j (omega arith))) (same n (omega arith))
+      lowest-same-next n (lowestRefusal other n) refl (lowest-same n (λ j h. same j (omega arith))) (same n (omega arith))

@@ -26,15 +26,15 @@ use Rattle.rules.proofs.Lists.{below-found, done, _▸_, each-row}
 use Rattle.rules.proofs.Refusals.{unless-passed, first-none, lowest-none}
 use Rattle.rules.proofs.Step.Addresses.{Within, TargetWithin, Bounded, meets-within}
 
-target-low : (word a n : ℕ) → ltb a word && leb word n ≡ true → word ≤ n
-target-low word a n fits = leb-true word n (and-eq-true-iff (ltb a word) (leb word n) .0 fits .1)
+fitting-low : (word a n : ℕ) → ltb a word && leb word n ≡ true → word ≤ n
+fitting-low word a n fits = leb-true word n (and-eq-true-iff (ltb a word) (leb word n) .0 fits .1)
 
 -- of each opcode of document 01's list
 target-within : (word a n opcode : ℕ) {row : OpcodeRow} → opcodeNumbered opcode ≡ some row → targetFits (row .operand) word a n ≡ true
     → TargetWithin n (row .instruction word)
 unfolding opcodes targetFits
 target-within word a n =
-    let low = target-low word a n in
+    let low = fitting-low word a n in
     each-row (λ opcode row. targetFits (row .operand) word a n ≡ true → TargetWithin n (row .instruction word)) opcodes
     ((λ e. tt) ▸ (λ e. tt) ▸ (λ e. tt) ▸ (λ e. tt) ▸ low ▸ low ▸ (λ e. tt) ▸ (λ e. tt) ▸ done)
 
@@ -48,16 +48,16 @@ module _ (bytes : List ℕ) (a : ℕ) where
       rw (e, instructionAt) (target-within _ a (records bytes) _ e fits)
 
 module _ (bytes : List ℕ) (passed : firstRefusal (codeTests bytes) ≡ none) where
-  tested : (a : ℕ) → a < records bytes → instructionTest bytes a ≡ none
+  instruction-passed : (a : ℕ) → a < records bytes → instructionTest bytes a ≡ none
   unfolding codeTests
-  tested a h = lowest-none (instructionTest bytes) (records bytes) a h (first-none _ _ (first-none _ _ passed .1) .0)
+  instruction-passed a h = lowest-none (instructionTest bytes) (records bytes) a h (first-none _ _ (first-none _ _ passed .1) .0)
 
   pub bounded-accepted : Bounded (records bytes) (instructions bytes)
   bounded-accepted = record {
     targets = λ a x e.
         let below : a < records bytes = rw (length-instructions bytes) at (below-found (instructions bytes) a e) in
         let same : instructionAt bytes a ≡ x = cc (instruction-found bytes a below, e) in
-        rw same at (instruction-within bytes a (opcodeAt bytes a) refl (tested a below));
+        rw same at (instruction-within bytes a (opcodeAt bytes a) refl (instruction-passed a below));
   }
 
   pub never-past : (placing : Placing) (i : Status) {s : State} → Meets (instructions bytes) placing (fresh i) s → Within (records bytes) s

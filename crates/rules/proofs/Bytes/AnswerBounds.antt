@@ -73,27 +73,27 @@ module _ {n : ℕ} {code : List Instruction} (bounded : Bounded n code) (long : 
     limited-here : Limited n s (step code placing s)
     limited-here = step-limited n s code placing (underway .within .address)
 
-  at-limit : {s : State} → Underway n zero s → (x : Step) → step code placing s ≡ x → Limited n s x → Small (run code placing zero s)
-  at-limit {s} underway (Next next) e limited = rw (run-limit-next code placing s e) (limit-small underway)
-  at-limit {s} underway (Over o) e limited = rw (run-over code placing s zero e) (answer-small underway o limited)
-  at-limit {s} underway (Stuck r) e limited = rw (run-limit-stuck code placing s e) (limit-small underway)
+  small-at-limit : {s : State} → Underway n zero s → (x : Step) → step code placing s ≡ x → Limited n s x → Small (run code placing zero s)
+  small-at-limit {s} underway (Next next) e limited = rw (run-limit-next code placing s e) (limit-small underway)
+  small-at-limit {s} underway (Over o) e limited = rw (run-over code placing s zero e) (answer-small underway o limited)
+  small-at-limit {s} underway (Stuck r) e limited = rw (run-limit-stuck code placing s e) (limit-small underway)
 
-  before-limit : {left : ℕ} {s : State} → Underway n (suc left) s → ((next : State) → Underway n left next → Small (run code placing left next))
+  small-before-limit : {left : ℕ} {s : State} → Underway n (suc left) s → ((next : State) → Underway n left next → Small (run code placing left next))
       → (x : Step) → step code placing s ≡ x → Limited n s x → Small (run code placing (suc left) s)
   unfolding outcomePlace
-  before-limit {left} {s} underway later (Next next) e limited =
+  small-before-limit {left} {s} underway later (Next next) e limited =
       let onward : Underway n left next = record {
         within = step-within bounded long placing (underway .within) e;
         steps = omega (arith, underway .steps, limited);
         reached = omega (arith, underway .reached, limited);
       } in
       rw (run-next code placing s left e) (later next onward)
-  before-limit {left} {s} underway later (Over o) e limited = rw (run-over code placing s (suc left) e) (answer-small underway o limited)
-  before-limit {left} {s} underway later (Stuck r) e limited = rw (run-stuck code placing s left e) (answer-small underway (Refused r) limited)
+  small-before-limit {left} {s} underway later (Over o) e limited = rw (run-over code placing s (suc left) e) (answer-small underway o limited)
+  small-before-limit {left} {s} underway later (Stuck r) e limited = rw (run-stuck code placing s left e) (answer-small underway (Refused r) limited)
 
   underway-small : (left : ℕ) (s : State) → Underway n left s → Small (run code placing left s)
-  underway-small zero s underway = at-limit underway (step code placing s) refl (limited-here underway)
-  underway-small (suc left) s underway = before-limit underway (underway-small left) (step code placing s) refl (limited-here underway)
+  underway-small zero s underway = small-at-limit underway (step code placing s) refl (limited-here underway)
+  underway-small (suc left) s underway = small-before-limit underway (underway-small left) (step code placing s) refl (limited-here underway)
 
   runs-small : (i : Status) → Small (runs code placing i)
   unfolding runs

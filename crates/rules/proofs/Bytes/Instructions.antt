@@ -17,33 +17,33 @@ use Rattle.rules.specs.CodeBytes.{instructionAt, instructionsBelow, inst
 use Rattle.rules.proofs.Lists.{missing-past, found-front, found-seam}
 
 module _ (code : List ℕ) where
-  length-below : (n : ℕ) → length (instructionsBelow code n) ≡ n
+  length-instructionsBelow : (n : ℕ) → length (instructionsBelow code n) ≡ n
   unfolding instructionsBelow
-  length-below zero = refl
-  length-below (suc n) = simp (length-append, length-below n) (omega arith)
+  length-instructionsBelow zero = refl
+  length-instructionsBelow (suc n) = simp (length-append, length-instructionsBelow n) (omega arith)
 
-  found-last : (n : ℕ) → getElem? (instructionsBelow code (suc n)) n ≡ some (instructionAt code n)
+  instructionsBelow-last : (n : ℕ) → getElem? (instructionsBelow code (suc n)) n ≡ some (instructionAt code n)
   unfolding instructionsBelow
-  found-last n =
+  instructionsBelow-last n =
       let seam = found-seam (instructionsBelow code n) (instructionAt code n) [] in
-      rw (length-below n) at seam
+      rw (length-instructionsBelow n) at seam
 
-  found-below : (n a : ℕ) → a < n → getElem? (instructionsBelow code n) a ≡ some (instructionAt code a)
+  instructionsBelow-found : (n a : ℕ) → a < n → getElem? (instructionsBelow code n) a ≡ some (instructionAt code a)
   unfolding instructionsBelow
-  found-below zero a h = absurd (omega arith)
-  found-below (suc n) a h = elim (decLt a n) [
-    | yes lower ↦ let front = found-front (instructionsBelow code n) (instructionAt code n ∷ []) a (rw (length-below n) lower) in
-        front ∙ found-below n a lower
-    | no not-lower ↦ let last : a ≡ n = omega arith in rw last (found-last n)
+  instructionsBelow-found zero a h = absurd (omega arith)
+  instructionsBelow-found (suc n) a h = elim (decLt a n) [
+    | yes lower ↦ let front = found-front (instructionsBelow code n) (instructionAt code n ∷ []) a (rw (length-instructionsBelow n) lower) in
+        front ∙ instructionsBelow-found n a lower
+    | no not-lower ↦ let last : a ≡ n = omega arith in rw last (instructionsBelow-last n)
   ]
 
   pub length-instructions : length (instructions code) ≡ records code
   unfolding instructions
-  length-instructions = length-below (records code)
+  length-instructions = length-instructionsBelow (records code)
 
   pub instruction-found : (a : ℕ) → a < records code → getElem? (instructions code) a ≡ some (instructionAt code a)
   unfolding instructions
-  instruction-found a h = found-below (records code) a h
+  instruction-found a h = instructionsBelow-found (records code) a h
 
   pub instruction-missing : (a : ℕ) → records code ≤ a → getElem? (instructions code) a ≡ none
   instruction-missing a h = missing-past (instructions code) a (rw length-instructions h)

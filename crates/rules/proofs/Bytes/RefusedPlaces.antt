@@ -66,25 +66,25 @@ module _ {n : ℕ} where
 -- ---- a test of a record
 
 module _ {n : ℕ} (bytes : List ℕ) (j : ℕ) (low : j < n) where
-  by-kind : (kind : Option KindRow) → kindAt bytes j ≡ kind → RefusesBelow n (nodeTest bytes j)
+  node-below-by : (kind : Option KindRow) → kindAt bytes j ≡ kind → RefusesBelow n (nodeTest bytes j)
   unfolding nodeTest
-  by-kind none e = rw (e, nodeTest) (refuses low)
-  by-kind (some kind) e = rw (e, nodeTest) (two-below _ _ (unless-below _ _ j low) (unless-below _ _ j low))
+  node-below-by none e = rw (e, nodeTest) (refuses low)
+  node-below-by (some kind) e = rw (e, nodeTest) (two-below _ _ (unless-below _ _ j low) (unless-below _ _ j low))
 
   node-below : RefusesBelow n (nodeTest bytes j)
-  node-below = by-kind (kindAt bytes j) refl
+  node-below = node-below-by (kindAt bytes j) refl
 
   use-below : RefusesBelow n (useTest bytes j)
   unfolding useTest
   use-below = unless-below _ _ j low
 
-  by-opcode : (opcode : Option OpcodeRow) → opcodeAt bytes j ≡ opcode → RefusesBelow n (instructionTest bytes j)
+  instruction-below-by : (opcode : Option OpcodeRow) → opcodeAt bytes j ≡ opcode → RefusesBelow n (instructionTest bytes j)
   unfolding instructionTest
-  by-opcode none e = rw (e, instructionTest) (refuses low)
-  by-opcode (some opcode) e = rw (e, instructionTest) (two-below _ _ (unless-below _ _ j low) (unless-below _ _ j low))
+  instruction-below-by none e = rw (e, instructionTest) (refuses low)
+  instruction-below-by (some opcode) e = rw (e, instructionTest) (two-below _ _ (unless-below _ _ j low) (unless-below _ _ j low))
 
   instruction-below : RefusesBelow n (instructionTest bytes j)
-  instruction-below = by-opcode (opcodeAt bytes j) refl
+  instruction-below = instruction-below-by (opcodeAt bytes j) refl
 
 -- ---- the tests of compiling and of running
 

@@ -1,10 +1,10 @@
 -- The size of a table or a code (tests 1 and 9), by its three parts.
 --
---   whole          bytes that are not none, not too many, and whole records
---   Whole          what the test says of them
+--   Whole          what the test says of bytes: whole records, at least one, and not too many bytes
 --   whole-means    so it does
+--   whole-passes   where each part holds, the test passes
 --   not-whole-none, not-whole-many, not-whole-part
---                  where one part fails, the test fails
+--                  where one fails, the test fails
 --
 -- Assumes nothing.
 use Prim.Native.Nat.{ℕ, _*_, _%_, _≤_, _<_}
@@ -16,24 +16,25 @@ use mathlib.Core.Bool.{true, false, _&&_, and-eq-true-iff, and-false}
 use mathlib.Core.List.{List}
 use mathlib.Core.Path.{_≡_}
 use Rattle.rules.specs.Bytes.{records, wholeRecords}
+use Rattle.rules.specs.Limits.{recordBytes}
 
 pub record Whole (most : ℕ) (bytes : List ℕ) : Type 0 where
-  pub size : length bytes ≡ 8 * records bytes
+  pub size : length bytes ≡ recordBytes * records bytes
   pub some : 1 ≤ records bytes
   pub few : length bytes ≤ most
 
 module _ (most : ℕ) (bytes : List ℕ) where
-  pub whole : (length bytes ≡ 0 → ⊥) → length bytes ≤ most → length bytes % 8 ≡ 0 → wholeRecords most bytes ≡ true
+  pub whole-passes : (length bytes ≡ 0 → ⊥) → length bytes ≤ most → length bytes % recordBytes ≡ 0 → wholeRecords most bytes ≡ true
   unfolding wholeRecords
-  whole some few records =
-      rw (lt-ltb 0 (length bytes) (omega (arith, some)), le-leb (length bytes) most few, eq-eqb (length bytes % 8) 0 records)
+  whole-passes some few records =
+      rw (lt-ltb 0 (length bytes) (omega (arith, some)), le-leb (length bytes) most few, eq-eqb (length bytes % recordBytes) 0 records)
 
   pub whole-means : wholeRecords most bytes ≡ true → Whole most bytes
   unfolding wholeRecords
   whole-means e =
-      let (sized, records) = and-eq-true-iff (ltb 0 (length bytes) && leb (length bytes) most) (eqb (length bytes % 8) 0) .0 e in
+      let (sized, records) = and-eq-true-iff (ltb 0 (length bytes) && leb (length bytes) most) (eqb (length bytes % recordBytes) 0) .0 e in
       let (some, few) = and-eq-true-iff (ltb 0 (length bytes)) (leb (length bytes) most) .0 sized in
-      let multiple : length bytes % 8 ≡ 0 = eqb-true (length bytes % 8) 0 records in
+      let multiple : length bytes % recordBytes ≡ 0 = eqb-true (length bytes % recordBytes) 0 records in
       let positive : 0 < length bytes = ltb-true 0 (length bytes) some in
       record { size = omega arith; some = omega arith; few = leb-true (length bytes) most few }
 
@@ -45,6 +46,6 @@ module _ (most : ℕ) (bytes : List ℕ) where
   unfolding wholeRecords
   not-whole-many many = rw (lt-leb (length bytes) most many, and-false (ltb 0 (length bytes)))
 
-  pub not-whole-part : (length bytes % 8 ≡ 0 → ⊥) → wholeRecords most bytes ≡ false
+  pub not-whole-part : (length bytes % recordBytes ≡ 0 → ⊥) → wholeRecords most bytes ≡ false
   unfolding wholeRecords
-  not-whole-part part = rw (ne-eqb (length bytes % 8) 0 part, and-false (ltb 0 (length bytes) && leb (length bytes) most))
+  not-whole-part part = rw (ne-eqb (length bytes % recordBytes) 0 part, and-false (ltb 0 (length bytes) && leb (length bytes) most))

@@ -100,27 +100,27 @@ module _ (P : Step → Type 0) where
     with-nothing (item ∷ rest) x q = p
 
 module _ (a : ℕ) (s : State) where
-  pushing : {x : Instruction} {item : Item} {j : Status} → Pushes (s .status) x item j → Effect x a s (push item a s j)
+  push-effect : {x : Instruction} {item : Item} {j : Status} → Pushes (s .status) x item j → Effect x a s (push item a s j)
   unfolding push
-  pushing {x} pushes =
+  push-effect {x} pushes =
       either (Effect x a s) (ltb (length (s .items)) itemLimit) _ _
       (λ room. carried (pushed pushes (ltb-true (length (s .items)) itemLimit room))) refused
 
-  executed : (x : Instruction) → Effect x a s (execute x a s)
+  execute-effect : (x : Instruction) → Effect x a s (execute x a s)
   unfolding execute
-  executed (Push n) = pushing number
-  executed Throw = carried thrown
-  executed Add =
+  execute-effect (Push n) = push-effect number
+  execute-effect Throw = carried thrown
+  execute-effect Add =
       with-number (Effect Add a s) _ refused (s .items) _ λ m below e. with-number (Effect Add a s) _ refused below _ λ n rest f.
       carried (replaced number (e ∙ ap (λ items. Number m ∷ items) f))
-  executed Pop = with-number (Effect Pop a s) _ refused (s .items) _ λ n rest e. carried (popped e)
-  executed (Mark t) = pushing handler
-  executed (Unmark t) =
+  execute-effect Pop = with-number (Effect Pop a s) _ refused (s .items) _ λ n rest e. carried (popped e)
+  execute-effect (Mark t) = push-effect handler
+  execute-effect (Unmark t) =
       with-number (Effect (Unmark t) a s) _ refused (s .items) _ λ n below e.
       with-handler (Effect (Unmark t) a s) _ refused below _ λ h rest f.
       carried (replaced handler (e ∙ ap (λ items. Number n ∷ items) f))
-  executed (Set j) = pushing saved
-  executed Reset =
+  execute-effect (Set j) = push-effect saved
+  execute-effect Reset =
       with-number (Effect Reset a s) _ refused (s .items) _ λ n below e.
       with-saved (Effect Reset a s) _ refused below _ λ j rest f.
       carried (replaced saved (e ∙ ap (λ items. Number n ∷ items) f))
@@ -128,7 +128,7 @@ module _ (a : ℕ) (s : State) where
   pub instruction-effect : (placing : Placing) (x : Instruction) → Effect x a s (atInstruction placing s a x)
   unfolding atInstruction
   instruction-effect placing x =
-      either (Effect x a s) (cuts (s .status) (placing (s .reached))) _ _ (λ cut. carried thrown) (executed x)
+      either (Effect x a s) (cuts (s .status) (placing (s .reached))) _ _ (λ cut. carried thrown) (execute-effect x)
 
 -- ---- unwinding
 
@@ -160,21 +160,21 @@ module _ (code : List Instruction) (s : State) where
     unended : {a : ℕ} → Stepped (Running a) (Over (Refused (noRule a)))
     unwinding : {items : List Item} {step : Step} → s .items ≡ items → Unwound s items step → Stepped Unwinding step
 
-  length-effect : (a : ℕ) → Stepped (Running a) (atLength s a)
+  atLength-effect : (a : ℕ) → Stepped (Running a) (atLength s a)
   unfolding atLength
-  length-effect a =
+  atLength-effect a =
       with-number (Stepped (Running a)) _ unended (s .items) _ λ n rest e. with-nothing (Stepped (Running a)) _ unended rest _ ended
 
-  at-effect : (placing : Placing) (a : ℕ) (found : Option Instruction) → getElem? code a ≡ found → Stepped (Running a) (stepAt placing s a found)
+  stepAt-effect : (placing : Placing) (a : ℕ) (found : Option Instruction) → getElem? code a ≡ found → Stepped (Running a) (stepAt placing s a found)
   unfolding stepAt
-  at-effect placing a none e = length-effect a
-  at-effect placing a (some x) e = instruction e (instruction-effect a s placing x)
+  stepAt-effect placing a none e = atLength-effect a
+  stepAt-effect placing a (some x) e = instruction e (instruction-effect a s placing x)
 
-  in-effect : (placing : Placing) (m : Mode) → Stepped m (stepIn code placing s m)
+  stepIn-effect : (placing : Placing) (m : Mode) → Stepped m (stepIn code placing s m)
   unfolding stepIn
-  in-effect placing (Running a) = at-effect placing a (getElem? code a) refl
-  in-effect placing Unwinding = unwinding refl (unwound-effect s (s .items))
+  stepIn-effect placing (Running a) = stepAt-effect placing a (getElem? code a) refl
+  stepIn-effect placing Unwinding = unwinding refl (unwound-effect s (s .items))
 
   pub step-effect : (placing : Placing) → Stepped (s .mode) (step code placing s)
   unfolding step
-  step-effect placing = in-effect placing (s .mode)
+  step-effect placing = stepIn-effect placing (s .mode)

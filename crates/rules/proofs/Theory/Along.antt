@@ -60,8 +60,8 @@ module _ {code : List Instruction} {placing : Placing} {u : State} {o : Outcome}
       let left : ℕ = stepLimit - u .steps in
       run-along path stepLimit left (omega arith) ∙ run-over code placing u left (f .over)
 
-  stays : {next : State} {A : Type 0} → Finishes code placing u o → step code placing u ≡ Next next → A
-  stays f e = let z : _≡_ {A = ℕ} 0 1 = cc (f .over) in absurd (omega arith)
+  finished-stays : {next : State} {A : Type 0} → Finishes code placing u o → step code placing u ≡ Next next → A
+  finished-stays f e = let z : _≡_ {A = ℕ} 0 1 = cc (f .over) in absurd (omega arith)
 
 -- ---- determinism
 
@@ -71,20 +71,20 @@ module _ {code : List Instruction} {placing : Placing} {room : ℕ} where
 
   pub agree : {s u u′ : State} {o o′ : Outcome} → Path code placing room s u → Finishes code placing u o → Path code placing room s u′ → Finishes code placing u′ o′ → o ≡ o′
   agree done f done f′ = cc (f .over, f′ .over)
-  agree done f (g ▸ path) f′ = stays f (g .taken)
-  agree (g ▸ path) f done f′ = stays f′ (g .taken)
+  agree done f (g ▸ path) f′ = finished-stays f (g .taken)
+  agree (g ▸ path) f done f′ = finished-stays f′ (g .taken)
   agree (g ▸ path) f (g′ ▸ path′) f′ = agree path f (rw (same-next g (g′ .taken)) at path′) f′
 
-  after : {s u m : State} → Goes code placing room s u → length (s .items) ≤ room → Meets code placing s m → (Meets code placing u m → length (m .items) ≤ room)
+  fits-after : {s u m : State} → Goes code placing room s u → length (s .items) ≤ room → Meets code placing s m → (Meets code placing u m → length (m .items) ≤ room)
       → length (m .items) ≤ room
-  after g h here rest = h
-  after g h (later e meets) rest = rest (rw (same-next g e) at meets)
+  fits-after g h here rest = h
+  fits-after g h (later e meets) rest = rest (rw (same-next g e) at meets)
 
-  last : {u m : State} {o : Outcome} → Finishes code placing u o → length (u .items) ≤ room → Meets code placing u m → length (m .items) ≤ room
-  last f h here = h
-  last f h (later e meets) = stays f e
+  fits-last : {u m : State} {o : Outcome} → Finishes code placing u o → length (u .items) ≤ room → Meets code placing u m → length (m .items) ≤ room
+  fits-last f h here = h
+  fits-last f h (later e meets) = finished-stays f e
 
   pub met-fits : {s u m : State} {o : Outcome} → Path code placing room s u → Finishes code placing u o → length (s .items) ≤ room → Meets code placing s m
       → length (m .items) ≤ room
-  met-fits done f h meets = last f h meets
-  met-fits (g ▸ path) f h meets = after g h meets (met-fits path f (g .fits))
+  met-fits done f h meets = fits-last f h meets
+  met-fits (g ▸ path) f h meets = fits-after g h meets (met-fits path f (g .fits))

@@ -43,14 +43,14 @@ placed-reads : (row : List Bool) → Reads (placed row) 0 row
 placed-reads row = reads-from (placed row) row 0 (λ k. let e : 0 + k ≡ k = omega arith in rw e)
 
 placed-ends : (row : List Bool) (n : ℕ) → length row ≤ n → AsksNothingFrom n (placed row)
-placed-ends row n h k l = let past : length row ≤ k = omega arith in List·getD-eq-default row false past
+placed-ends row n h k l = let at-the-length : length row ≤ k = omega arith in List·getD-eq-default row false at-the-length
 
 module _ (e : Expression) (small : nodes e ≤ nodeLimit) (i : Status) where
-  whole : Holds (compile 0 e) 0 e (0 + codeLength e)
-  whole = compile-holds 0 e [] [] refl (sym (append-nil (compile 0 e)))
+  compiled-held : Holds (compile 0 e) 0 e (0 + codeLength e)
+  compiled-held = compile-holds 0 e [] [] refl (sym (append-nil (compile 0 e)))
 
-  past : length (compile 0 e) ≤ 0 + codeLength e
-  past = rw length-compile (omega arith)
+  at-the-length : length (compile 0 e) ≤ 0 + codeLength e
+  at-the-length = rw length-compile (omega arith)
 
   -- where the run is over
   record Finish (placing : Placing) : Type 0 where
@@ -64,12 +64,12 @@ module _ (e : Expression) (small : nodes e ≤ nodeLimit) (i : Status) where
 
   finish-of : {placing : Placing} → Lands (compile 0 e) placing (nodes e) e i [] (0 + codeLength e) 0 0 (fresh i) → Finish placing
   finish-of (number n t r g p q path) =
-      record { state = _; end = End.Number n; path = path; finishes = number-finishes past; permitted = g; steps = omega arith; reached = omega arith }
+      record { state = _; end = End.Number n; path = path; finishes = number-finishes at-the-length; permitted = g; steps = omega arith; reached = omega arith }
   finish-of (throws t r g p q path) =
       record { state = _; end = End.Throw; path = path; finishes = throw-finishes; permitted = g; steps = omega arith; reached = omega arith }
 
   finish : (placing : Placing) → Finish placing
-  finish placing = finish-of (lands small whole i [] 0 0 (omega arith))
+  finish placing = finish-of (lands small compiled-held i [] 0 0 (omega arith))
 
   answered : {placing : Placing} (f : Finish placing) → ofExpression e placing i ≡ answer (f .state) (Ended (f .end))
   answered f = finished (f .path) (f .finishes) (omega (arith, f .steps))
@@ -85,13 +85,13 @@ module _ (e : Expression) (small : nodes e ≤ nodeLimit) (i : Status) where
 
   same-end : {placing : Placing} (v : End) → Comes (compile 0 e) placing (nodes e) (fresh i) (arrival v (0 + codeLength e) i []) [] → (f : Finish placing)
       → _≡_ {A = Outcome} (Ended (f .end)) (Ended v)
-  same-end (End.Number n) (by path reads) f = agree (f .path) (f .finishes) path (number-finishes past)
+  same-end (End.Number n) (by path reads) f = agree (f .path) (f .finishes) path (number-finishes at-the-length)
   same-end End.Throw (by path reads) f = agree (f .path) (f .finishes) path throw-finishes
 
   comes-to : {placing : Placing} {v : End} (d : Gives e i v) → Reads placing 0 (bits d []) → ofExpression e placing i .outcome ≡ Ended v
   comes-to {placing} {v} d reads =
       let f : Finish placing = finish placing in
-      ap (λ a. a .outcome) (answered f) ∙ same-end v (arrives small d whole [] (omega arith) [] (by done reads)) f
+      ap (λ a. a .outcome) (answered f) ∙ same-end v (arrives small d compiled-held [] (omega arith) [] (by done reads)) f
 
   meets : (v : End) → Gives e i v → (placing : Placing) × AsksNothingFrom (mostReached e) placing × (ofExpression e placing i .outcome ≡ Ended v)
   unfolding mostReached
