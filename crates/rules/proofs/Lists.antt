@@ -116,7 +116,8 @@ module _ {A : Type 0} where
   pub row-none-of : (rows : List A) (k : ℕ) → NoneOf k (length rows) → rowNumbered rows k ≡ none
   row-none-of rows k other = row-unknown rows k (none-of-outside k (length rows) other)
 
-  pub each-row : (P : ℕ → A → Type 0) (rows : List A) → EachFrom P 1 rows → (k : ℕ) {row : A} → rowNumbered rows k ≡ some row → P k row
+  pub each-row : (P : ℕ → A → Type 0) (rows : List A) → EachFrom P 1 rows → (k : ℕ) {row : A} → rowNumbered rows k ≡ some row
+      → P k row
   unfolding rowNumbered
   each-row P rows each zero e = absurd (Option·none-ne-some _ e)
   each-row P rows each (suc k) e = each-found each k (suc k) (omega arith) e

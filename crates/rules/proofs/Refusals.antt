@@ -41,7 +41,8 @@ unfolding firstRefusal
 first-only none = refl
 first-only (some r) = refl
 
-pub first-none : (test : Option Refusal) (tests : List (Option Refusal)) → firstRefusal (test ∷ tests) ≡ none → (test ≡ none) × (firstRefusal tests ≡ none)
+pub first-none : (test : Option Refusal) (tests : List (Option Refusal)) → firstRefusal (test ∷ tests) ≡ none
+    → (test ≡ none) × (firstRefusal tests ≡ none)
 unfolding firstRefusal
 first-none none tests e = (refl, e)
 first-none (some r) tests e = refused-not-passed e
@@ -52,13 +53,15 @@ rows-none [] back e = refl
 rows-none (none ∷ front) back e = rows-none front back e
 rows-none (some r ∷ front) back e = e
 
-pub rows-passed : (front back : List (Option Refusal)) → firstRefusal front ≡ none → firstRefusal (front ++ back) ≡ firstRefusal back
+pub rows-passed : (front back : List (Option Refusal)) → firstRefusal front ≡ none
+    → firstRefusal (front ++ back) ≡ firstRefusal back
 unfolding firstRefusal
 rows-passed [] back e = refl
 rows-passed (none ∷ front) back e = rows-passed front back e
 rows-passed (some r ∷ front) back e = refused-not-passed e
 
-pub rows-refused : (front back : List (Option Refusal)) {r : Refusal} → firstRefusal front ≡ some r → firstRefusal (front ++ back) ≡ some r
+pub rows-refused : (front back : List (Option Refusal)) {r : Refusal} → firstRefusal front ≡ some r
+    → firstRefusal (front ++ back) ≡ some r
 unfolding firstRefusal
 rows-refused [] back e = absurd (Option·none-ne-some _ e)
 rows-refused (none ∷ front) back e = rows-refused front back e
@@ -78,7 +81,8 @@ module _ (test : ℕ → Option Refusal) where
   pub lowest-next : (j : ℕ) → lowestRefusal test j ≡ none → test j ≡ none → lowestRefusal test (j + 1) ≡ none
   lowest-next j below here = rw add-one (lowest-suc j below ∙ here)
 
-  pub lowest-found : (n j : ℕ) {r : Refusal} → j < n → lowestRefusal test j ≡ none → test j ≡ some r → lowestRefusal test n ≡ some r
+  pub lowest-found : (n j : ℕ) {r : Refusal} → j < n → lowestRefusal test j ≡ none → test j ≡ some r
+      → lowestRefusal test n ≡ some r
   lowest-found zero j h below here = absurd (omega arith)
   lowest-found (suc n) j h below here = elim (decLt j n) [
     | yes lower ↦ lowest-kept n (lowest-found n j lower below here)
@@ -86,7 +90,8 @@ module _ (test : ℕ → Option Refusal) where
   ]
 
   -- below a place that is passed, all are
-  lowest-before : (n : ℕ) (o : Option Refusal) → lowestRefusal test n ≡ o → lowestRefusal test (suc n) ≡ none → lowestRefusal test n ≡ none
+  lowest-before : (n : ℕ) (o : Option Refusal) → lowestRefusal test n ≡ o → lowestRefusal test (suc n) ≡ none
+      → lowestRefusal test n ≡ none
   lowest-before n none e last = e
   lowest-before n (some r) e last = cc (lowest-kept n e)
 

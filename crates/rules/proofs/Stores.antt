@@ -31,7 +31,8 @@ module _ {ℓ} {A : Type ℓ} where
       let above : i < suc j = omega arith in
       rw (set-comm l i j x y apart) (set-sets-comm (set l j y) i x (suc j) ys above)
 
-  pub sets-comm : (l : List A) (i : ℕ) (xs : List A) (j : ℕ) (ys : List A) → i + length xs ≤ j → sets (sets l i xs) j ys ≡ sets (sets l j ys) i xs
+  pub sets-comm : (l : List A) (i : ℕ) (xs : List A) (j : ℕ) (ys : List A) → i + length xs ≤ j
+      → sets (sets l i xs) j ys ≡ sets (sets l j ys) i xs
   sets-comm l i [] j ys h = refl
   sets-comm l i (x ∷ xs) j ys h =
       let below : i < j = omega arith in

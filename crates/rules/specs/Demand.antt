@@ -57,7 +57,8 @@ pub record Demand (e : Expression) (i : Status) : Type 0 where
   -- "Every placing, however long, ends in a number or a throw within 3n - 1 steps", and the rules permit that end
   pub ends : (placing : Placing) → Ends e i (ofExpression e placing i)
   -- "each permitted end is met by a placing over the first 2n - 1 instructions reached"
-  pub meets : (v : End) → Gives e i v → (placing : Placing) × AsksNothingFrom (mostReached e) placing × (ofExpression e placing i .outcome ≡ Ended v)
+  pub meets : (v : End) → Gives e i v
+      → (placing : Placing) × AsksNothingFrom (mostReached e) placing × (ofExpression e placing i .outcome ≡ Ended v)
   -- "a number, or a throw, is the end of its compiled code under some placing exactly when the evaluation rules permit that end"
   pub exactly : (v : End) → ((placing : Placing) × (ofExpression e placing i .outcome ≡ Ended v)) ↔ Gives e i v
   -- the stack never holds more items than there are nodes

@@ -93,7 +93,9 @@ withNothing (item ∷ rest) otherwise x = otherwise
 
 unfoldable pub push : Item → ℕ → State → Status → Step
 push item a s i =
-    cond (ltb (length (s .items)) itemLimit) (onward s (Running (a + 1)) i (item ∷ s .items)) (Stuck (record { reason = StackFull; place = a }))
+    cond (ltb (length (s .items)) itemLimit)
+    (onward s (Running (a + 1)) i (item ∷ s .items))
+    (Stuck (record { reason = StackFull; place = a }))
 
 unfoldable pub execute : Instruction → ℕ → State → Step
 execute (Push n) a s = push (Number n) a s (s .status)

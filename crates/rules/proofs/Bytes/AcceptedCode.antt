@@ -9,6 +9,7 @@ use Prim.Native.Nat.{ℕ, _≤_, _<_}
 use native.Mathlib.Omega.{arith}
 use borrow.Author.Tests.{leb-true}
 use lib.Dec.{ltb, leb}
+use lib.ListN.{length}
 use mathlib.Core.Bool.{true, _&&_, and-eq-true-iff}
 use mathlib.Core.List.{List}
 use mathlib.Core.Option.{Option, none, some}
@@ -30,8 +31,8 @@ fitting-low : (word a n : ℕ) → ltb a word && leb word n ≡ true → word �
 fitting-low word a n fits = leb-true word n (and-eq-true-iff (ltb a word) (leb word n) .0 fits .1)
 
 -- of each opcode of document 01's list
-target-within : (word a n opcode : ℕ) {row : OpcodeRow} → opcodeNumbered opcode ≡ some row → targetFits (row .operand) word a n ≡ true
-    → TargetWithin n (row .instruction word)
+target-within : (word a n opcode : ℕ) {row : OpcodeRow} → opcodeNumbered opcode ≡ some row
+    → targetFits (row .operand) word a n ≡ true → TargetWithin n (row .instruction word)
 unfolding opcodes targetFits
 target-within word a n =
     let low = fitting-low word a n in
@@ -39,12 +40,14 @@ target-within word a n =
     ((λ e. tt) ▸ (λ e. tt) ▸ (λ e. tt) ▸ (λ e. tt) ▸ low ▸ low ▸ (λ e. tt) ▸ (λ e. tt) ▸ done)
 
 module _ (bytes : List ℕ) (a : ℕ) where
-  instruction-within : (opcode : Option OpcodeRow) → opcodeAt bytes a ≡ opcode → instructionTest bytes a ≡ none → TargetWithin (records bytes) (instructionAt bytes a)
+  instruction-within : (opcode : Option OpcodeRow) → opcodeAt bytes a ≡ opcode → instructionTest bytes a ≡ none
+      → TargetWithin (records bytes) (instructionAt bytes a)
   unfolding opcodeAt instructionAt instructionTest
   instruction-within none e test = rw (e, instructionAt) tt
   instruction-within (some row) e test =
       let fields = first-none _ _ (rw (e, instructionTest) at test) .1 in
-      let fits = unless-passed (targetFits (row .operand) (operandAt bytes a) a (records bytes)) Reason.Target a (first-none _ _ fields .0) in
+      let fits : targetFits (row .operand) (operandAt bytes a) a (records bytes) ≡ true =
+      unless-passed _ Reason.Target a (first-none _ _ fields .0) in
       rw (e, instructionAt) (target-within _ a (records bytes) _ e fits)
 
 module _ (bytes : List ℕ) (passed : firstRefusal (codeTests bytes) ≡ none) where
@@ -60,6 +63,8 @@ module _ (bytes : List ℕ) (passed : firstRefusal (codeTests bytes) ≡ none) w
         rw same at (instruction-within bytes a (opcodeAt bytes a) refl (instruction-passed a below));
   }
 
-  pub never-past : (placing : Placing) (i : Status) {s : State} → Meets (instructions bytes) placing (fresh i) s → Within (records bytes) s
+  pub never-past : (placing : Placing) (i : Status) {s : State} → Meets (instructions bytes) placing (fresh i) s
+      → Within (records bytes) s
   never-past placing i meets =
-      meets-within bounded-accepted (rw (length-instructions bytes) (omega arith)) placing (record { address = omega arith; handlers = tt }) meets
+      let long : length (instructions bytes) ≤ records bytes = rw (length-instructions bytes) (omega arith) in
+      meets-within bounded-accepted long placing (record { address = omega arith; handlers = tt }) meets

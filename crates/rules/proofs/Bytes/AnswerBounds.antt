@@ -61,7 +61,8 @@ record Underway (n left : ℕ) (s : State) : Type 0 where
   steps : s .steps + left ≤ stepLimit
   reached : s .reached ≤ s .steps
 
-module _ {n : ℕ} {code : List Instruction} (bounded : Bounded n code) (long : length code ≤ n) (few : n ≤ instructionLimit) (placing : Placing) where
+module _ {n : ℕ} {code : List Instruction} (bounded : Bounded n code) (long : length code ≤ n) (few : n ≤ instructionLimit)
+    (placing : Placing) where
   module _ {left : ℕ} {s : State} (underway : Underway n left s) where
     answer-small : (o : Outcome) → outcomePlace o ≤ n → Small (answer s o)
     answer-small o low = omega (arith, underway)
@@ -73,12 +74,14 @@ module _ {n : ℕ} {code : List Instruction} (bounded : Bounded n code) (long : 
     limited-here : Limited n s (step code placing s)
     limited-here = step-limited n s code placing (underway .within .address)
 
-  small-at-limit : {s : State} → Underway n zero s → (x : Step) → step code placing s ≡ x → Limited n s x → Small (run code placing zero s)
+  small-at-limit : {s : State} → Underway n zero s → (x : Step) → step code placing s ≡ x → Limited n s x
+      → Small (run code placing zero s)
   small-at-limit {s} underway (Next next) e limited = rw (run-limit-next code placing s e) (limit-small underway)
   small-at-limit {s} underway (Over o) e limited = rw (run-over code placing s zero e) (answer-small underway o limited)
   small-at-limit {s} underway (Stuck r) e limited = rw (run-limit-stuck code placing s e) (limit-small underway)
 
-  small-before-limit : {left : ℕ} {s : State} → Underway n (suc left) s → ((next : State) → Underway n left next → Small (run code placing left next))
+  small-before-limit : {left : ℕ} {s : State} → Underway n (suc left) s
+      → ((next : State) → Underway n left next → Small (run code placing left next))
       → (x : Step) → step code placing s ≡ x → Limited n s x → Small (run code placing (suc left) s)
   unfolding outcomePlace
   small-before-limit {left} {s} underway later (Next next) e limited =
@@ -88,12 +91,15 @@ module _ {n : ℕ} {code : List Instruction} (bounded : Bounded n code) (long : 
         reached = omega (arith, underway .reached, limited);
       } in
       rw (run-next code placing s left e) (later next onward)
-  small-before-limit {left} {s} underway later (Over o) e limited = rw (run-over code placing s (suc left) e) (answer-small underway o limited)
-  small-before-limit {left} {s} underway later (Stuck r) e limited = rw (run-stuck code placing s left e) (answer-small underway (Refused r) limited)
+  small-before-limit {left} {s} underway later (Over o) e limited =
+      rw (run-over code placing s (suc left) e) (answer-small underway o limited)
+  small-before-limit {left} {s} underway later (Stuck r) e limited =
+      rw (run-stuck code placing s left e) (answer-small underway (Refused r) limited)
 
   underway-small : (left : ℕ) (s : State) → Underway n left s → Small (run code placing left s)
   underway-small zero s underway = small-at-limit underway (step code placing s) refl (limited-here underway)
-  underway-small (suc left) s underway = small-before-limit underway (underway-small left) (step code placing s) refl (limited-here underway)
+  underway-small (suc left) s underway =
+      small-before-limit underway (underway-small left) (step code placing s) refl (limited-here underway)
 
   runs-small : (i : Status) → Small (runs code placing i)
   unfolding runs
@@ -110,7 +116,8 @@ module _ (status : ℕ) (code schedule stack : List ℕ) where
   small-by none e passes =
       let passed : firstRefusal (codeTests code) ≡ none = first-none _ _ (first-none _ _ e .1) .1 in
       let long : length (instructions code) ≤ records code = omega (arith, length-instructions code) in
-      rw (run-passed status code schedule stack e .0) (runs-small (bounded-accepted code passed) long (accepted-few code passed) (asks schedule) (statusNumbered status))
+      rw (run-passed status code schedule stack e .0)
+      (runs-small (bounded-accepted code passed) long (accepted-few code passed) (asks schedule) (statusNumbered status))
   small-by (some r) e (refuses low) = rw (run-refused status code schedule stack e .0) (omega arith)
 
   pub run-small : Small (runAnswer status code schedule stack)

@@ -77,12 +77,15 @@ NodeInRange (Node.Block left) = Unit
 NodeInRange (Node.Unblock left) = Unit
 
 -- whatever word and operands a record has, the node that its kind makes of them is in range
-kind-in-range : (word left right kind : ℕ) {row : KindRow} → kindNumbered kind ≡ some row → NodeInRange (row .node (signed word) left right)
+kind-in-range : (word left right kind : ℕ) {row : KindRow} → kindNumbered kind ≡ some row
+    → NodeInRange (row .node (signed word) left right)
 unfolding kinds
 kind-in-range word left right =
-    each-row (λ kind row. NodeInRange (row .node (signed word) left right)) kinds (signed-lane-count word ▸ tt ▸ tt ▸ tt ▸ tt ▸ tt ▸ tt ▸ done)
+    each-row (λ kind row. NodeInRange (row .node (signed word) left right)) kinds
+    (signed-lane-count word ▸ tt ▸ tt ▸ tt ▸ tt ▸ tt ▸ tt ▸ done)
 
-ofNode-in-range : (node : Node) (operand : ℕ → Expression) → NodeInRange node → ((k : ℕ) → InRange (operand k)) → InRange (ofNode node operand)
+ofNode-in-range : (node : Node) (operand : ℕ → Expression) → NodeInRange node → ((k : ℕ) → InRange (operand k))
+    → InRange (ofNode node operand)
 unfolding ofNode
 ofNode-in-range (Node.Val n) operand own below = own
 ofNode-in-range Node.Throw operand own below = tt
@@ -102,7 +105,8 @@ module _ (table : List ℕ) where
   unfolding expressionWithin
   expression-in-range zero j = tt
   expression-in-range (suc levels) j =
-      ofNode-in-range (nodeAt table j) (expressionWithin levels table) (node-in-range j (kindAt table j) refl) (expression-in-range levels)
+      ofNode-in-range (nodeAt table j) (expressionWithin levels table) (node-in-range j (kindAt table j) refl)
+      (expression-in-range levels)
 
   pub recipe-in-range : InRange (recipe table)
   unfolding recipe expressionAt
@@ -142,4 +146,5 @@ module _ (e : Expression) (r : InRange e) (short : codeLength e ≤ instructionL
   instructions-compiled = instructions-bytesOf (compile 0 e) (rw (length-compile 0 e) short) compiled-writable
 
   pub compiled-passes : firstRefusal (codeTests (bytesOf (compile 0 e))) ≡ none
-  compiled-passes = bytesOf-passes (compile 0 e) (rw (length-compile 0 e) short) compiled-writable (rw (length-compile 0 e) (codeLength-pos e))
+  compiled-passes =
+      bytesOf-passes (compile 0 e) (rw (length-compile 0 e) short) compiled-writable (rw (length-compile 0 e) (codeLength-pos e))

@@ -32,8 +32,9 @@ module _ (code : List ℕ) where
   unfolding instructionsBelow
   instructionsBelow-found zero a h = absurd (omega arith)
   instructionsBelow-found (suc n) a h = elim (decLt a n) [
-    | yes lower ↦ let front = found-front (instructionsBelow code n) (instructionAt code n ∷ []) a (rw (length-instructionsBelow n) lower) in
-        front ∙ instructionsBelow-found n a lower
+    | yes lower ↦
+        let below : a < length (instructionsBelow code n) = rw (length-instructionsBelow n) lower in
+        found-front (instructionsBelow code n) (instructionAt code n ∷ []) a below ∙ instructionsBelow-found n a lower
     | no not-lower ↦ let last : a ≡ n = omega arith in rw last (instructionsBelow-last n)
   ]
 

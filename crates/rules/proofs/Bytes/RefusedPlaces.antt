@@ -39,8 +39,8 @@ module _ {n : ℕ} where
   unless-below false reason place low = refuses low
 
   -- the others are looked at only where the first has passed
-  first-below : (test : Option Refusal) (tests : List (Option Refusal)) → RefusesBelow n test → (test ≡ none → RefusesBelow n (firstRefusal tests))
-      → RefusesBelow n (firstRefusal (test ∷ tests))
+  first-below : (test : Option Refusal) (tests : List (Option Refusal)) → RefusesBelow n test
+      → (test ≡ none → RefusesBelow n (firstRefusal tests)) → RefusesBelow n (firstRefusal (test ∷ tests))
   unfolding firstRefusal
   first-below none tests here later = later refl
   first-below (some r) tests here later = here
@@ -48,7 +48,8 @@ module _ {n : ℕ} where
   only-below : (test : Option Refusal) → RefusesBelow n test → RefusesBelow n (firstRefusal (test ∷ []))
   only-below test here = rw (first-only test) here
 
-  two-below : (test other : Option Refusal) → RefusesBelow n test → RefusesBelow n other → RefusesBelow n (firstRefusal (test ∷ other ∷ []))
+  two-below : (test other : Option Refusal) → RefusesBelow n test → RefusesBelow n other
+      → RefusesBelow n (firstRefusal (test ∷ other ∷ []))
   two-below test other here there = first-below test (other ∷ []) here λ passed. only-below other there
 
   module _ (test : ℕ → Option Refusal) where
@@ -88,7 +89,8 @@ module _ {n : ℕ} (bytes : List ℕ) (j : ℕ) (low : j < n) where
 
 -- ---- the tests of compiling and of running
 
-sized-few : (most : ℕ) (bytes : List ℕ) (reason : Reason) → unless (wholeRecords most bytes) reason 0 ≡ none → recordBytes * records bytes ≤ most
+sized-few : (most : ℕ) (bytes : List ℕ) (reason : Reason) → unless (wholeRecords most bytes) reason 0 ≡ none
+    → recordBytes * records bytes ≤ most
 sized-few most bytes reason passed =
     let whole = whole-means most bytes (unless-passed (wholeRecords most bytes) reason 0 passed) in
     omega (arith, whole .size, whole .few)

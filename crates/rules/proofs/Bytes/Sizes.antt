@@ -24,17 +24,19 @@ pub record Whole (most : ℕ) (bytes : List ℕ) : Type 0 where
   pub few : length bytes ≤ most
 
 module _ (most : ℕ) (bytes : List ℕ) where
-  pub whole-passes : (length bytes ≡ 0 → ⊥) → length bytes ≤ most → length bytes % recordBytes ≡ 0 → wholeRecords most bytes ≡ true
+  pub whole-passes : (length bytes ≡ 0 → ⊥) → length bytes ≤ most → length bytes % recordBytes ≡ 0
+      → wholeRecords most bytes ≡ true
   unfolding wholeRecords
   whole-passes some few records =
-      rw (lt-ltb 0 (length bytes) (omega (arith, some)), le-leb (length bytes) most few, eq-eqb (length bytes % recordBytes) 0 records)
+      let positive : 0 < length bytes = omega (arith, some) in
+      rw (lt-ltb 0 (length bytes) positive, le-leb (length bytes) most few, eq-eqb (length bytes % recordBytes) 0 records)
 
   pub whole-means : wholeRecords most bytes ≡ true → Whole most bytes
   unfolding wholeRecords
   whole-means e =
-      let (sized, records) = and-eq-true-iff (ltb 0 (length bytes) && leb (length bytes) most) (eqb (length bytes % recordBytes) 0) .0 e in
+      let (sized, part) = and-eq-true-iff (ltb 0 (length bytes) && leb (length bytes) most) _ .0 e in
       let (some, few) = and-eq-true-iff (ltb 0 (length bytes)) (leb (length bytes) most) .0 sized in
-      let multiple : length bytes % recordBytes ≡ 0 = eqb-true (length bytes % recordBytes) 0 records in
+      let multiple : length bytes % recordBytes ≡ 0 = eqb-true (length bytes % recordBytes) 0 part in
       let positive : 0 < length bytes = ltb-true 0 (length bytes) some in
       record { size = omega arith; some = omega arith; few = leb-true (length bytes) most few }
 
@@ -48,4 +50,5 @@ module _ (most : ℕ) (bytes : List ℕ) where
 
   pub not-whole-part : (length bytes % recordBytes ≡ 0 → ⊥) → wholeRecords most bytes ≡ false
   unfolding wholeRecords
-  not-whole-part part = rw (ne-eqb (length bytes % recordBytes) 0 part, and-false (ltb 0 (length bytes) && leb (length bytes) most))
+  not-whole-part part =
+      rw (ne-eqb (length bytes % recordBytes) 0 part, and-false (ltb 0 (length bytes) && leb (length bytes) most))

@@ -22,7 +22,8 @@ use mathlib.Core.Path.{_≡_, refl, sym, ap, _∙_}
 use Rattle.rules.specs.Answers.{statusNumber, statusNumbered}
 use Rattle.rules.specs.Bytes.{byteAt, halfAt, wordAt, wordBytes, allZero, records, wholeRecords, rowNumbered}
 use Rattle.rules.specs.CodeBytes.{instructionRecord, instructionBytes, bytesOf, OpcodeRow, opcodes, opcodeAt, operandAt}
-use Rattle.rules.specs.CodeBytes.{instructionAt, instructionsBelow, instructions, operandFits, targetFits, instructionTest, codeTests}
+use Rattle.rules.specs.CodeBytes.{instructionAt, instructionsBelow, instructions}
+use Rattle.rules.specs.CodeBytes.{operandFits, targetFits, instructionTest, codeTests}
 use Rattle.rules.specs.Limits.{recordBytes, instructionLimit, codeLimit}
 use Rattle.rules.specs.Number.{residue, signed}
 use Rattle.rules.specs.Refusals.{unless, firstRefusal}
@@ -106,13 +107,15 @@ byte-standing (x ∷ xs) zero i k inside h =
     rw here (List·getD-append (instructionBytes x) (bytesOf xs) 0 k (rw (length-instructionBytes x) (h .0)))
 byte-standing (x ∷ xs) (suc a) i k inside h =
     let past : i ≡ length (instructionBytes x) + (recordBytes * a + k) = rw (length-instructionBytes x) (omega arith) in
-    rw past (getD-append-add (instructionBytes x) (bytesOf xs) (recordBytes * a + k) 0 ∙ byte-standing xs a (recordBytes * a + k) k (omega arith) (h .0, refl))
+    let later = byte-standing xs a (recordBytes * a + k) k (omega arith) (h .0, refl) in
+    rw past (getD-append-add (instructionBytes x) (bytesOf xs) (recordBytes * a + k) 0 ∙ later)
 
 records-bytesOf : (xs : List Instruction) → records (bytesOf xs) ≡ length xs
 records-bytesOf xs = rw (length-bytesOf xs) (omega arith)
 
 module _ (xs : List Instruction) (a : ℕ) (inside : a < length xs) where
-  record-byte : (i k : ℕ) → (k < recordBytes) × (i ≡ recordBytes * a + k) → byteAt (bytesOf xs) i ≡ byteAt (instructionBytes (standing xs a)) k
+  record-byte : (i k : ℕ) → (k < recordBytes) × (i ≡ recordBytes * a + k)
+      → byteAt (bytesOf xs) i ≡ byteAt (instructionBytes (standing xs a)) k
   record-byte i k = byte-standing xs a i k inside
 
   opcode-standing : opcodeAt (bytesOf xs) a ≡ opcodeAt (instructionBytes (standing xs a)) 0
@@ -129,9 +132,15 @@ module _ (xs : List Instruction) (a : ℕ) (inside : a < length xs) where
         record-byte (recordBytes * a + 4 + 2 + 1) 7 (omega arith),
       )
 
-  zeros-standing : allZero (bytesOf xs) (recordBytes * a) (1 ∷ 2 ∷ 3 ∷ []) ≡ allZero (instructionBytes (standing xs a)) 0 (1 ∷ 2 ∷ 3 ∷ [])
+  zeros-standing : allZero (bytesOf xs) (recordBytes * a) (1 ∷ 2 ∷ 3 ∷ [])
+      ≡ allZero (instructionBytes (standing xs a)) 0 (1 ∷ 2 ∷ 3 ∷ [])
   unfolding allZero
-  zeros-standing = rw (record-byte (recordBytes * a + 1) 1 (omega arith), record-byte (recordBytes * a + 2) 2 (omega arith), record-byte (recordBytes * a + 3) 3 (omega arith))
+  zeros-standing =
+      rw (
+        record-byte (recordBytes * a + 1) 1 (omega arith),
+        record-byte (recordBytes * a + 2) 2 (omega arith),
+        record-byte (recordBytes * a + 3) 3 (omega arith),
+      )
 
   read-by-row : (o : Option OpcodeRow) → opcodeAt (bytesOf xs) a ≡ o → Says (length xs) a (standing xs a) o
       → (instructionAt (bytesOf xs) a ≡ standing xs a) × (instructionTest (bytesOf xs) a ≡ none)
@@ -161,5 +170,5 @@ module _ (xs : List Instruction) (short : length xs ≤ instructionLimit) (all :
   unfolding codeTests firstRefusal unless
   bytesOf-passes long =
       let bytes : length (bytesOf xs) ≡ recordBytes * length xs = length-bytesOf xs in
-      let size : wholeRecords codeLimit (bytesOf xs) ≡ true = whole-passes codeLimit (bytesOf xs) (omega arith) (omega arith) (omega arith) in
+      let size = whole-passes codeLimit (bytesOf xs) (omega arith) (omega arith) (omega arith) in
       rw (size, records-bytesOf xs, lowest-all (instructionTest (bytesOf xs)) (length xs) λ a inside. read-back a inside .1)

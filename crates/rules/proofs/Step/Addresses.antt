@@ -21,7 +21,8 @@ use Rattle.rules.specs.declared.Item.{Item}
 use Rattle.rules.specs.declared.Item.the-variants.{Number, Handler, Saved}
 use Rattle.rules.specs.declared.Status.{Status}
 use Rattle.rules.proofs.Lists.{below-found}
-use Rattle.rules.proofs.Step.Effects.{Pushes, number, handler, saved, Takes, Change, pushed, popped, replaced, thrown, carried, refused}
+use Rattle.rules.proofs.Step.Effects.{Pushes, number, handler, saved, Takes, Change}
+use Rattle.rules.proofs.Step.Effects.{pushed, popped, replaced, thrown, carried, refused}
 use Rattle.rules.proofs.Step.Effects.{Undoes, removed, empty, Stepped, instruction, ended, unended, unwinding, step-effect}
 
 -- ---- states and codes within n
@@ -61,32 +62,34 @@ Keeps n (Over o) = Unit
 Keeps n (Stuck r) = Unit
 
 module _ (n : ℕ) where
-  pushed-within : {i j : Status} {x : Instruction} {item : Item} (rest : List Item) → Pushes i x item j → TargetWithin n x → Handlers n rest
-      → Handlers n (item ∷ rest)
+  pushed-within : {i j : Status} {x : Instruction} {item : Item} (rest : List Item) → Pushes i x item j → TargetWithin n x
+      → Handlers n rest → Handlers n (item ∷ rest)
   pushed-within rest number target handlers = handlers
   pushed-within rest handler target handlers = (target, handlers)
   pushed-within rest saved target handlers = handlers
 
-  taken-within : {a b : ℕ} {i j : Status} {x : Instruction} {item : Item} (rest : List Item) → Takes a i x item b j → a < n → TargetWithin n x
-      → Handlers n (item ∷ rest) → (b ≤ n) × Handlers n rest
+  taken-within : {a b : ℕ} {i j : Status} {x : Instruction} {item : Item} (rest : List Item) → Takes a i x item b j → a < n
+      → TargetWithin n x → Handlers n (item ∷ rest) → (b ≤ n) × Handlers n rest
   taken-within rest number below target handlers = (omega arith, handlers)
   taken-within rest handler below target handlers = (target, handlers .1)
   taken-within rest saved below target handlers = (omega arith, handlers)
 
-  undone-within : {i j : Status} {item : Item} {m : Mode} (rest : List Item) → Undoes i item m j → Handlers n (item ∷ rest) → At n m × Handlers n rest
+  undone-within : {i j : Status} {item : Item} {m : Mode} (rest : List Item) → Undoes i item m j → Handlers n (item ∷ rest)
+      → At n m × Handlers n rest
   undone-within rest number handlers = (tt, handlers)
   undone-within rest handler handlers = handlers
   undone-within rest saved handlers = (tt, handlers)
 
   module _ (s : State) (within : Handlers n (s .items)) where
-    change-within : {x : Instruction} {a : ℕ} {m : Mode} {j : Status} {items : List Item} → a < n → TargetWithin n x → Change x a s m j items
-        → At n m × Handlers n items
+    change-within : {x : Instruction} {a : ℕ} {m : Mode} {j : Status} {items : List Item} → a < n → TargetWithin n x
+        → Change x a s m j items → At n m × Handlers n items
     change-within below target (pushed pushes room) = (omega arith, pushed-within (s .items) pushes target within)
     change-within below target (popped e) = (omega arith, rw e at within)
     change-within below target (replaced {rest = rest} takes e) = taken-within rest takes below target (rw e at within)
     change-within below target thrown = (tt, within)
 
-    stepped-within : {code : List Instruction} {m : Mode} {next : Step} → Bounded n code → length code ≤ n → Stepped code s m next → Keeps n next
+    stepped-within : {code : List Instruction} {m : Mode} {next : Step} → Bounded n code → length code ≤ n
+        → Stepped code s m next → Keeps n next
     stepped-within {code} bounded long (instruction {a} {x} e (carried change)) =
         let after = change-within (omega (arith, below-found code a e)) (bounded .targets a x e) change in
         record { address = after .0; handlers = after .1 }

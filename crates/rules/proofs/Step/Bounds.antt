@@ -13,7 +13,8 @@ use Rattle.rules.specs.Answers.{outcomePlace}
 use Rattle.rules.specs.Machine.{State, Mode, Step, Placing, Next, Over, Stuck, step}
 use Rattle.rules.specs.declared.Instruction.{Instruction}
 use Rattle.rules.proofs.Step.Addresses.{At}
-use Rattle.rules.proofs.Step.Effects.{carried, refused, removed, empty, Stepped, instruction, ended, unended, unwinding, step-effect}
+use Rattle.rules.proofs.Step.Effects.{carried, refused, removed, empty, Stepped}
+use Rattle.rules.proofs.Step.Effects.{instruction, ended, unended, unwinding, step-effect}
 
 abbrev pub Limited : ℕ → State → Step → Type 0
 Limited n s (Next next) = (next .steps ≡ s .steps + 1) × (next .reached ≤ s .reached + 1)

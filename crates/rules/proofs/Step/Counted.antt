@@ -18,7 +18,8 @@ use Rattle.rules.specs.Run.{answer, tooManySteps, run}
 use Rattle.rules.specs.declared.Instruction.{Instruction}
 use Rattle.rules.specs.declared.Item.{Item}
 use Rattle.rules.specs.declared.Status.{Status}
-use Rattle.rules.proofs.Step.Effects.{Change, pushed, popped, replaced, thrown, Effect, carried, refused, instruction-effect}
+use Rattle.rules.proofs.Step.Effects.{Change, pushed, popped, replaced, thrown}
+use Rattle.rules.proofs.Step.Effects.{Effect, carried, refused, instruction-effect}
 use Rattle.rules.proofs.Step.Effects.{Unwound, removed, empty, unwound-effect}
 use Rattle.rules.proofs.Step.Order.{run-limit-next, run-limit-stuck}
 
@@ -35,7 +36,8 @@ Counted s (Stuck r) = Unit
 -- ---- running at an instruction
 
 module _ (s : State) (few : length (s .items) ≤ itemLimit) where
-  change-few : {x : Instruction} {a : ℕ} {m : Mode} {i : Status} {items : List Item} → Change x a s m i items → length items ≤ itemLimit
+  change-few : {x : Instruction} {a : ℕ} {m : Mode} {i : Status} {items : List Item} → Change x a s m i items
+      → length items ≤ itemLimit
   change-few (pushed pushes room) = room
   change-few (popped e) = omega (arith, ap length e)
   change-few (replaced takes e) = omega (arith, ap length e)
@@ -50,7 +52,8 @@ module _ (s : State) (few : length (s .items) ≤ itemLimit) where
 
 -- ---- unwinding
 
-removed-counted : {s : State} {items : List Item} {next : Step} → 0 < length items → length items ≤ itemLimit → Unwound s items next → Counted s next
+removed-counted : {s : State} {items : List Item} {next : Step} → 0 < length items → length items ≤ itemLimit
+    → Unwound s items next → Counted s next
 removed-counted some few (removed undoes) = record { steps = refl; reached = omega arith; items = omega arith }
 removed-counted some few empty = absurd (omega arith)
 

@@ -23,7 +23,8 @@ use mathlib.Core.Option.{Option, none, some}
 use mathlib.Core.Path.{_≡_, refl, ap, _∙_}
 use Rattle.rules.specs.Limits.{itemLimit}
 use Rattle.rules.specs.Machine.{State, Mode, Running, Unwinding, Placing, Step, Over, Stuck, onward, unwound, noRule}
-use Rattle.rules.specs.Machine.{withNumber, withHandler, withSaved, withNothing, push, execute, cuts, atInstruction, atLength}
+use Rattle.rules.specs.Machine.{withNumber, withHandler, withSaved}
+use Rattle.rules.specs.Machine.{withNothing, push, execute, cuts, atInstruction, atLength}
 use Rattle.rules.specs.Machine.{unwind, stepAt, stepIn, step}
 use Rattle.rules.specs.declared.End.{End}
 use Rattle.rules.specs.declared.Instruction.{Instruction}
@@ -140,7 +141,8 @@ pub data Undoes (i : Status) : Item → Mode → Status → Type 0 where
 
 module _ (s : State) where
   pub data Unwound : List Item → Step → Type 0 where
-    removed : {item : Item} {rest : List Item} {m : Mode} {j : Status} → Undoes (s .status) item m j → Unwound (item ∷ rest) (unwound s m j rest)
+    removed : {item : Item} {rest : List Item} {m : Mode} {j : Status} → Undoes (s .status) item m j
+        → Unwound (item ∷ rest) (unwound s m j rest)
     empty : Unwound [] (Over (Ended End.Throw))
 
   pub unwound-effect : (items : List Item) → Unwound items (unwind s items)
@@ -154,7 +156,8 @@ module _ (s : State) where
 
 module _ (code : List Instruction) (s : State) where
   pub data Stepped : Mode → Step → Type 0 where
-    instruction : {a : ℕ} {x : Instruction} {step : Step} → getElem? code a ≡ some x → Effect x a s step → Stepped (Running a) step
+    instruction : {a : ℕ} {x : Instruction} {step : Step} → getElem? code a ≡ some x → Effect x a s step
+        → Stepped (Running a) step
     -- at the length
     ended : {a : ℕ} {n : ℤ} → Stepped (Running a) (Over (Ended (End.Number n)))
     unended : {a : ℕ} → Stepped (Running a) (Over (Refused (noRule a)))
@@ -163,9 +166,11 @@ module _ (code : List Instruction) (s : State) where
   atLength-effect : (a : ℕ) → Stepped (Running a) (atLength s a)
   unfolding atLength
   atLength-effect a =
-      with-number (Stepped (Running a)) _ unended (s .items) _ λ n rest e. with-nothing (Stepped (Running a)) _ unended rest _ ended
+      with-number (Stepped (Running a)) _ unended (s .items) _ λ n rest e.
+      with-nothing (Stepped (Running a)) _ unended rest _ ended
 
-  stepAt-effect : (placing : Placing) (a : ℕ) (found : Option Instruction) → getElem? code a ≡ found → Stepped (Running a) (stepAt placing s a found)
+  stepAt-effect : (placing : Placing) (a : ℕ) (found : Option Instruction) → getElem? code a ≡ found
+      → Stepped (Running a) (stepAt placing s a found)
   unfolding stepAt
   stepAt-effect placing a none e = atLength-effect a
   stepAt-effect placing a (some x) e = instruction e (instruction-effect a s placing x)

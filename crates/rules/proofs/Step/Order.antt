@@ -18,7 +18,8 @@ use mathlib.Core.Bool.{true, false}
 use mathlib.Core.List.{List}
 use mathlib.Core.Option.{some}
 use mathlib.Core.Path.{_≡_}
-use Rattle.rules.specs.Machine.{State, Running, Unwinding, Placing, Next, Over, Stuck, onward, execute, cuts, atInstruction, stepAt, stepIn, step}
+use Rattle.rules.specs.Machine.{State, Running, Unwinding, Placing, Next, Over, Stuck}
+use Rattle.rules.specs.Machine.{onward, execute, cuts, atInstruction, stepAt, stepIn, step}
 use Rattle.rules.specs.Run.{answer, tooManySteps, run}
 use Rattle.rules.specs.declared.Status.{Status}
 use Rattle.rules.specs.declared.Instruction.{Instruction}
@@ -36,7 +37,8 @@ unwinding i s t r = record { mode = Unwinding; status = i; items = s; steps = t;
 pub record Has (code : List Instruction) (a : ℕ) (x : Instruction) : Type 0 where
   pub found : getElem? code a ≡ some x
 
-module _ {code : List Instruction} {a : ℕ} {x : Instruction} (placing : Placing) (i : Status) (s : List Item) (t r : ℕ) (h : Has code a x) where
+module _ {code : List Instruction} {a : ℕ} {x : Instruction} (placing : Placing) (i : Status) (s : List Item) (t r : ℕ)
+    (h : Has code a x) where
   pub step-cut : cuts i (placing r) ≡ true → step code placing (running a i s t r) ≡ onward (running a i s t r) Unwinding i s
   unfolding step stepIn stepAt atInstruction
   step-cut e = rw (h .found, stepAt, e)
@@ -46,7 +48,8 @@ module _ {code : List Instruction} {a : ℕ} {x : Instruction} (placing : Placin
   step-carried e = rw (h .found, stepAt, e)
 
 module _ (code : List Instruction) (placing : Placing) (s : State) where
-  pub run-next : (left : ℕ) {next : State} → step code placing s ≡ Next next → run code placing (suc left) s ≡ run code placing left next
+  pub run-next : (left : ℕ) {next : State} → step code placing s ≡ Next next
+      → run code placing (suc left) s ≡ run code placing left next
   unfolding run
   run-next left e = rw (e, run)
 

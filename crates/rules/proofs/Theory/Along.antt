@@ -15,7 +15,8 @@ use mathlib.Core.List.{List, [], _∷_}
 use mathlib.Core.Path.{_≡_, refl, ap, _∙_}
 use Rattle.rules.specs.Demand.{Meets, here, later}
 use Rattle.rules.specs.Limits.{stepLimit}
-use Rattle.rules.specs.Machine.{State, fresh, Placing, Next, Over, withNumber, withNothing, atLength, unwind, stepAt, stepIn, step}
+use Rattle.rules.specs.Machine.{State, fresh, Placing, Next, Over, withNumber}
+use Rattle.rules.specs.Machine.{withNothing, atLength, unwind, stepAt, stepIn, step}
 use Rattle.rules.specs.Run.{answer, run, runs}
 use Rattle.rules.specs.declared.Status.{Status}
 use Rattle.rules.specs.declared.Instruction.{Instruction}
@@ -33,7 +34,8 @@ pub record Finishes (code : List Instruction) (placing : Placing) (s : State) (o
   pub over : step code placing s ≡ Over o
 
 module _ {code : List Instruction} {placing : Placing} {i : Status} {t r : ℕ} where
-  pub number-finishes : {a : ℕ} {n : ℤ} → length code ≤ a → Finishes code placing (running a i (Number n ∷ []) t r) (Ended (End.Number n))
+  pub number-finishes : {a : ℕ} {n : ℤ} → length code ≤ a
+      → Finishes code placing (running a i (Number n ∷ []) t r) (Ended (End.Number n))
   unfolding step stepIn stepAt atLength withNumber withNothing
   number-finishes {a = a} h = record { over = rw (missing-past code a h, stepAt) }
 
@@ -48,13 +50,16 @@ module _ {code : List Instruction} {placing : Placing} {room : ℕ} where
   path-steps done = omega arith
   path-steps (g ▸ path) = omega (arith, g .counted, path-steps path)
 
-  run-along : {s u : State} → Path code placing room s u → (left k : ℕ) → k + u .steps ≡ left + s .steps → run code placing left s ≡ run code placing k u
+  run-along : {s u : State} → Path code placing room s u → (left k : ℕ) → k + u .steps ≡ left + s .steps
+      → run code placing left s ≡ run code placing k u
   run-along {s} done left k e = let same : left ≡ k = omega arith in ap (λ n. run code placing n s) same
   run-along (g ▸ path) zero k e = absurd (omega (arith, g .counted, path-steps path))
-  run-along {s} (g ▸ path) (suc left) k e = run-next code placing s left (g .taken) ∙ run-along path left k (omega (arith, g .counted))
+  run-along {s} (g ▸ path) (suc left) k e =
+      run-next code placing s left (g .taken) ∙ run-along path left k (omega (arith, g .counted))
 
 module _ {code : List Instruction} {placing : Placing} {u : State} {o : Outcome} where
-  pub finished : {room : ℕ} {i : Status} → Path code placing room (fresh i) u → Finishes code placing u o → u .steps ≤ stepLimit → runs code placing i ≡ answer u o
+  pub finished : {room : ℕ} {i : Status} → Path code placing room (fresh i) u → Finishes code placing u o
+      → u .steps ≤ stepLimit → runs code placing i ≡ answer u o
   unfolding runs
   finished path f h =
       let left : ℕ = stepLimit - u .steps in
@@ -69,22 +74,24 @@ module _ {code : List Instruction} {placing : Placing} {room : ℕ} where
   same-next : {s u next : State} → Goes code placing room s u → step code placing s ≡ Next next → next ≡ u
   same-next g e = cc (g .taken)
 
-  pub agree : {s u u′ : State} {o o′ : Outcome} → Path code placing room s u → Finishes code placing u o → Path code placing room s u′ → Finishes code placing u′ o′ → o ≡ o′
+  pub agree : {s u u′ : State} {o o′ : Outcome} → Path code placing room s u → Finishes code placing u o
+      → Path code placing room s u′ → Finishes code placing u′ o′ → o ≡ o′
   agree done f done f′ = cc (f .over, f′ .over)
   agree done f (g ▸ path) f′ = finished-stays f (g .taken)
   agree (g ▸ path) f done f′ = finished-stays f′ (g .taken)
   agree (g ▸ path) f (g′ ▸ path′) f′ = agree path f (rw (same-next g (g′ .taken)) at path′) f′
 
-  fits-after : {s u m : State} → Goes code placing room s u → length (s .items) ≤ room → Meets code placing s m → (Meets code placing u m → length (m .items) ≤ room)
-      → length (m .items) ≤ room
+  fits-after : {s u m : State} → Goes code placing room s u → length (s .items) ≤ room → Meets code placing s m
+      → (Meets code placing u m → length (m .items) ≤ room) → length (m .items) ≤ room
   fits-after g h here rest = h
   fits-after g h (later e meets) rest = rest (rw (same-next g e) at meets)
 
-  fits-last : {u m : State} {o : Outcome} → Finishes code placing u o → length (u .items) ≤ room → Meets code placing u m → length (m .items) ≤ room
+  fits-last : {u m : State} {o : Outcome} → Finishes code placing u o → length (u .items) ≤ room → Meets code placing u m
+      → length (m .items) ≤ room
   fits-last f h here = h
   fits-last f h (later e meets) = finished-stays f e
 
-  pub met-fits : {s u m : State} {o : Outcome} → Path code placing room s u → Finishes code placing u o → length (s .items) ≤ room → Meets code placing s m
-      → length (m .items) ≤ room
+  pub met-fits : {s u m : State} {o : Outcome} → Path code placing room s u → Finishes code placing u o
+      → length (s .items) ≤ room → Meets code placing s m → length (m .items) ≤ room
   met-fits done f h meets = fits-last f h meets
   met-fits (g ▸ path) f h meets = fits-after g h meets (met-fits path f (g .fits))

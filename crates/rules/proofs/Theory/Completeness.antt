@@ -54,7 +54,8 @@ unfolding resetBits
 length-resetBits (End.Number n) rest = omega arith
 length-resetBits End.Throw rest = omega arith
 
-pub length-bits : {e : Expression} {i : Status} {v : End} (d : Gives e i v) (rest : List Bool) → length (bits d rest) + 1 ≤ length rest + 2 * nodes e
+pub length-bits : {e : Expression} {i : Status} {v : End} (d : Gives e i v) (rest : List Bool)
+    → length (bits d rest) + 1 ≤ length rest + 2 * nodes e
 unfolding bits nodes
 length-bits VAL rest = omega arith
 length-bits THROW rest = omega arith
@@ -88,11 +89,13 @@ module _ (code : List Instruction) (placing : Placing) (room : ℕ) where
 
 module _ {code : List Instruction} {placing : Placing} {room : ℕ} {from : State} {u w : ℕ → ℕ → State} (row : List Bool) where
   -- an instruction carried out
-  carry : ((t r : ℕ) → placing r ≡ false → Goes code placing room (u t r) (w (t + 1) (r + 1))) → Comes code placing room from u (false ∷ row) → Comes code placing room from w row
+  carry : ((t r : ℕ) → placing r ≡ false → Goes code placing room (u t r) (w (t + 1) (r + 1)))
+      → Comes code placing room from u (false ∷ row) → Comes code placing room from w row
   carry g (by {t = t} {r = r} path (bit e reads)) = by (path ▹ g t r e ▸ done) reads
 
   -- an item removed in unwinding
-  undo : ((t r : ℕ) → Goes code placing room (u t r) (w (t + 1) r)) → Comes code placing room from u row → Comes code placing room from w row
+  undo : ((t r : ℕ) → Goes code placing room (u t r) (w (t + 1) r))
+      → Comes code placing room from u row → Comes code placing room from w row
   undo g (by {t = t} {r = r} path reads) = by (path ▹ g t r ▸ done) reads
 
 -- the first instruction of an expression
@@ -113,28 +116,35 @@ arrival End.Throw b i s = unwinding i s
 
 module _ {code : List Instruction} {placing : Placing} {room : ℕ} {from : State} (small : room ≤ itemLimit) where
   recall-arrives : {a b : ℕ} {e : Expression} {s : List Item} (row : List Bool) → Holds code a e b → length s ≤ room
-      → Comes code placing room from (running a Unblocked s) (true ∷ row) → Comes code placing room from (unwinding Unblocked s) row
+      → Comes code placing room from (running a Unblocked s) (true ∷ row)
+      → Comes code placing room from (unwinding Unblocked s) row
   unfolding cuts
   recall-arrives row h f (by path (bit e reads)) = by (path ▹ cut (first-instruction h .1) e f ▸ done) reads
 
   -- RESET after a number, a saved status restored after a throw
-  reset-arrives : (v : End) (i j : Status) (s : List Item) (row : List Bool) {b : ℕ} → Has code b Instruction.Reset → suc (length s) ≤ room
-      → Comes code placing room from (arrival v b j (Saved i ∷ s)) (resetBits v row) → Comes code placing room from (arrival v (b + 1) i s) row
+  reset-arrives : (v : End) (i j : Status) (s : List Item) (row : List Bool) {b : ℕ}
+      → Has code b Instruction.Reset → suc (length s) ≤ room
+      → Comes code placing room from (arrival v b j (Saved i ∷ s)) (resetBits v row)
+      → Comes code placing room from (arrival v (b + 1) i s) row
   unfolding resetBits execute withNumber withSaved
   reset-arrives (End.Number n) i j s row reset f p = carry row (λ t r e. go reset (unasked-uncut j e) refl f) p
   reset-arrives End.Throw i j s row reset f p = let f₀ : length s ≤ room = omega arith in undo row (λ t r. restore f₀) p
 
   -- SET j, x, RESET: what Block and Unblock have in common
-  scope-arrives : (v : End) (i j : Status) (s : List Item) (inside row : List Bool) {a b : ℕ} → Has code a (Instruction.Set j) → Has code b Instruction.Reset
-      → suc (length s) ≤ room
-      → (Comes code placing room from (running (a + 1) j (Saved i ∷ s)) inside → Comes code placing room from (arrival v b j (Saved i ∷ s)) (resetBits v row))
-      → Comes code placing room from (running a i s) (false ∷ inside) → Comes code placing room from (arrival v (b + 1) i s) row
+  scope-arrives : (v : End) (i j : Status) (s : List Item) (inside row : List Bool) {a b : ℕ}
+      → Has code a (Instruction.Set j) → Has code b Instruction.Reset → suc (length s) ≤ room
+      → (Comes code placing room from (running (a + 1) j (Saved i ∷ s)) inside
+      → Comes code placing room from (arrival v b j (Saved i ∷ s)) (resetBits v row))
+      → Comes code placing room from (running a i s) (false ∷ inside)
+      → Comes code placing room from (arrival v (b + 1) i s) row
   unfolding execute
   scope-arrives v i j s inside row set reset f inner p =
       reset-arrives v i j s row reset f (inner (carry inside (λ t r e. pushes small set (unasked-uncut i e) refl f) p))
 
-  pub arrives : {e : Expression} {i : Status} {v : End} (d : Gives e i v) {a b : ℕ} → Holds code a e b → (s : List Item) → length s + nodes e ≤ room
-      → (row : List Bool) → Comes code placing room from (running a i s) (bits d row) → Comes code placing room from (arrival v b i s) row
+  pub arrives : {e : Expression} {i : Status} {v : End} (d : Gives e i v) {a b : ℕ} → Holds code a e b
+      → (s : List Item) → length s + nodes e ≤ room
+      → (row : List Bool) → Comes code placing room from (running a i s) (bits d row)
+      → Comes code placing room from (arrival v b i s) row
   unfolding nodes bits execute withNumber withHandler withSaved
   arrives (VAL {i = i}) (val h) s f row p =
       let f₁ : suc (length s) ≤ room = omega arith in

@@ -37,7 +37,8 @@ placed row k = getD row k false
 reads-from : (placing : Placing) (row : List Bool) (r : ℕ) → ((k : ℕ) → placing (r + k) ≡ getD row k false) → Reads placing r row
 reads-from placing [] r h = none
 reads-from placing (b ∷ row) r h =
-    bit (rw add-zero at (h 0)) (reads-from placing row (r + 1) (λ k. let e : r + 1 + k ≡ r + suc k = omega arith in rw e (h (suc k))))
+    bit (rw add-zero at (h 0))
+    (reads-from placing row (r + 1) (λ k. let e : r + 1 + k ≡ r + suc k = omega arith in rw e (h (suc k))))
 
 placed-reads : (row : List Bool) → Reads (placed row) 0 row
 placed-reads row = reads-from (placed row) row 0 (λ k. let e : 0 + k ≡ k = omega arith in rw e)
@@ -64,9 +65,25 @@ module _ (e : Expression) (small : nodes e ≤ nodeLimit) (i : Status) where
 
   finish-of : {placing : Placing} → Lands (compile 0 e) placing (nodes e) e i [] (0 + codeLength e) 0 0 (fresh i) → Finish placing
   finish-of (number n t r g p q path) =
-      record { state = _; end = End.Number n; path = path; finishes = number-finishes at-the-length; permitted = g; steps = omega arith; reached = omega arith }
+      record {
+        state = _;
+        end = End.Number n;
+        path = path;
+        finishes = number-finishes at-the-length;
+        permitted = g;
+        steps = omega arith;
+        reached = omega arith;
+      }
   finish-of (throws t r g p q path) =
-      record { state = _; end = End.Throw; path = path; finishes = throw-finishes; permitted = g; steps = omega arith; reached = omega arith }
+      record {
+        state = _;
+        end = End.Throw;
+        path = path;
+        finishes = throw-finishes;
+        permitted = g;
+        steps = omega arith;
+        reached = omega arith;
+      }
 
   finish : (placing : Placing) → Finish placing
   finish placing = finish-of (lands small compiled-held i [] 0 0 (omega arith))
@@ -79,21 +96,30 @@ module _ (e : Expression) (small : nodes e ≤ nodeLimit) (i : Status) where
   ends placing =
       let f : Finish placing = finish placing in
       rw (answered f)
-      (record { end = f .end; ended = refl; permitted = f .permitted; withinSteps = omega (arith, f .steps); withinReached = omega (arith, f .reached) })
+      (record {
+        end = f .end;
+        ended = refl;
+        permitted = f .permitted;
+        withinSteps = omega (arith, f .steps);
+        withinReached = omega (arith, f .reached);
+      })
 
   -- ---- the end of a derivation is the end of the run that reads its row
 
-  same-end : {placing : Placing} (v : End) → Comes (compile 0 e) placing (nodes e) (fresh i) (arrival v (0 + codeLength e) i []) [] → (f : Finish placing)
+  same-end : {placing : Placing} (v : End)
+      → Comes (compile 0 e) placing (nodes e) (fresh i) (arrival v (0 + codeLength e) i []) [] → (f : Finish placing)
       → _≡_ {A = Outcome} (Ended (f .end)) (Ended v)
   same-end (End.Number n) (by path reads) f = agree (f .path) (f .finishes) path (number-finishes at-the-length)
   same-end End.Throw (by path reads) f = agree (f .path) (f .finishes) path throw-finishes
 
-  comes-to : {placing : Placing} {v : End} (d : Gives e i v) → Reads placing 0 (bits d []) → ofExpression e placing i .outcome ≡ Ended v
+  comes-to : {placing : Placing} {v : End} (d : Gives e i v) → Reads placing 0 (bits d [])
+      → ofExpression e placing i .outcome ≡ Ended v
   comes-to {placing} {v} d reads =
       let f : Finish placing = finish placing in
       ap (λ a. a .outcome) (answered f) ∙ same-end v (arrives small d compiled-held [] (omega arith) [] (by done reads)) f
 
-  meets : (v : End) → Gives e i v → (placing : Placing) × AsksNothingFrom (mostReached e) placing × (ofExpression e placing i .outcome ≡ Ended v)
+  meets : (v : End) → Gives e i v
+      → (placing : Placing) × AsksNothingFrom (mostReached e) placing × (ofExpression e placing i .outcome ≡ Ended v)
   unfolding mostReached
   meets v d =
       let row : List Bool = bits d [] in

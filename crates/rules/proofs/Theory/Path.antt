@@ -52,7 +52,8 @@ module _ {code : List Instruction} {placing : Placing} {room : ℕ} where
 
   -- ---- a push: what PUSH, MARK and SET have in common
 
-  pub pushes : {a t r : ℕ} {x : Instruction} {i j : Status} {s : List Item} {item : Item} → room ≤ itemLimit → Has code a x → cuts i (placing r) ≡ false
+  pub pushes : {a t r : ℕ} {x : Instruction} {i j : Status} {s : List Item} {item : Item}
+      → room ≤ itemLimit → Has code a x → cuts i (placing r) ≡ false
       → execute x a (running a i s t r) ≡ push item a (running a i s t r) j → suc (length s) ≤ room
       → Goes code placing room (running a i s t r) (running (a + 1) j (item ∷ s) (t + 1) (r + 1))
   unfolding push

@@ -52,13 +52,15 @@ module _ {code : List Instruction} {placing : Placing} {room : ℕ} (small : roo
       → t′ ≤ t + 3 * nodes x + 2 → r′ ≤ r + 2 * nodes x + 1 → Path code placing room from (running a i s t′ r′)
       → Lands code placing room y i s b t′ r′ (running a i s t′ r′) → Lands code placing room (Catch x y) i s b t r from
   unfolding nodes
-  handler-lands g p q path (number n t″ r″ g′ p′ q′ path′) = number n t″ r″ (CATCH2 g g′) (omega arith) (omega arith) (path ▹ path′)
+  handler-lands g p q path (number n t″ r″ g′ p′ q′ path′) =
+      number n t″ r″ (CATCH2 g g′) (omega arith) (omega arith) (path ▹ path′)
   handler-lands g p q path (throws t″ r″ g′ p′ q′ path′) = throws t″ r″ (CATCH2 g g′) (omega arith) (omega arith) (path ▹ path′)
 
   -- ---- SET j, x, RESET: what Block and Unblock have in common
 
-  module _ {e x : Expression} {i j : Status} {s : List Item} {a b t r : ℕ} (rule : (v : End) → Gives x j v → Gives e i v) (size : nodes e ≡ nodes x + 1)
-      (set : Has code a (Instruction.Set j)) (reset : Has code b Instruction.Reset) (f : length s + nodes e ≤ room) where
+  module _ {e x : Expression} {i j : Status} {s : List Item} {a b t r : ℕ} (rule : (v : End) → Gives x j v → Gives e i v)
+      (size : nodes e ≡ nodes x + 1) (set : Has code a (Instruction.Set j)) (reset : Has code b Instruction.Reset)
+      (f : length s + nodes e ≤ room) where
     reset-lands : Path code placing room (running a i s t r) (running (a + 1) j (Saved i ∷ s) (t + 1) (r + 1))
         → Lands code placing room x j (Saved i ∷ s) b (t + 1) (r + 1) (running (a + 1) j (Saved i ∷ s) (t + 1) (r + 1))
         → Lands code placing room e i s (b + 1) t r (running a i s t r)
@@ -71,7 +73,8 @@ module _ {code : List Instruction} {placing : Placing} {room : ℕ} (small : roo
         let f₁ : suc (length s) ≤ room = omega arith in
         let f₂ : suc (suc (length s)) ≤ room = omega (arith, nodes-pos x) in
         elim (strikes j (placing r′)) [
-          | calm c ↦ number n (t′ + 1) (r′ + 1) (rule (End.Number n) g) (omega arith) (omega arith) (path ▹ path′ ▹ go reset c refl f₁ ▸ done)
+          | calm c ↦ number n (t′ + 1) (r′ + 1) (rule (End.Number n) g) (omega arith) (omega arith)
+              (path ▹ path′ ▹ go reset c refl f₁ ▸ done)
           | struck int c ↦ throws (t′ + 1 + 1 + 1) (r′ + 1) (rule End.Throw (int x)) (omega arith) (omega arith)
               (path ▹ path′ ▹ cut reset c f₂ ▸ drop f₁ ▸ restore f₀ ▸ done)
         ]
@@ -112,9 +115,11 @@ module _ {code : List Instruction} {placing : Placing} {room : ℕ} (small : roo
       elim (lands hx i s t r (omega arith)) [
         | throws t′ r′ g p q path ↦ throws t′ r′ (ADD2 g) (omega arith) (omega arith) path
         | number n t′ r′ g p q path ↦ elim (lands hy i (Number n ∷ s) t′ r′ (omega (arith, nodes-pos x))) [
-          | throws t″ r″ g′ p′ q′ path′ ↦ throws (t″ + 1) r″ (ADD3 g g′) (omega arith) (omega arith) (path ▹ path′ ▹ drop f₀ ▸ done)
+          | throws t″ r″ g′ p′ q′ path′ ↦ throws (t″ + 1) r″ (ADD3 g g′) (omega arith) (omega arith)
+              (path ▹ path′ ▹ drop f₀ ▸ done)
           | number m t″ r″ g′ p′ q′ path′ ↦ elim (strikes i (placing r″)) [
-            | calm c ↦ number (sum n m) (t″ + 1) (r″ + 1) (ADD1 g g′) (omega arith) (omega arith) (path ▹ path′ ▹ go h c refl f₁ ▸ done)
+            | calm c ↦ number (sum n m) (t″ + 1) (r″ + 1) (ADD1 g g′) (omega arith) (omega arith)
+                (path ▹ path′ ▹ go h c refl f₁ ▸ done)
             | struck int c ↦ throws (t″ + 1 + 1 + 1) (r″ + 1) (int (Add x y)) (omega arith) (omega arith)
                 (path ▹ path′ ▹ cut h c f₂ ▸ drop f₁ ▸ drop f₀ ▸ done)
           ]
@@ -126,10 +131,12 @@ module _ {code : List Instruction} {placing : Placing} {room : ℕ} (small : roo
       elim (lands hx i s t r (omega arith)) [
         | throws t′ r′ g p q path ↦ throws t′ r′ (SEQN2 g) (omega arith) (omega arith) path
         | number n t′ r′ g p q path ↦ elim (strikes i (placing r′)) [
-          | struck int c ↦ throws (t′ + 1 + 1) (r′ + 1) (int (Seqn x y)) (omega arith) (omega arith) (path ▹ cut h c f₁ ▸ drop f₀ ▸ done)
+          | struck int c ↦ throws (t′ + 1 + 1) (r′ + 1) (int (Seqn x y)) (omega arith) (omega arith)
+              (path ▹ cut h c f₁ ▸ drop f₀ ▸ done)
           | calm c ↦ elim (lands hy i s (t′ + 1) (r′ + 1) (omega arith)) [
             | throws t″ r″ g′ p′ q′ path′ ↦ throws t″ r″ (SEQN1 g g′) (omega arith) (omega arith) (path ▹ go h c refl f₀ ▸ path′)
-            | number m t″ r″ g′ p′ q′ path′ ↦ number m t″ r″ (SEQN1 g g′) (omega arith) (omega arith) (path ▹ go h c refl f₀ ▸ path′)
+            | number m t″ r″ g′ p′ q′ path′ ↦ number m t″ r″ (SEQN1 g g′) (omega arith) (omega arith)
+                (path ▹ go h c refl f₀ ▸ path′)
           ]
         ]
       ]
