@@ -105,7 +105,7 @@ module _ (a : ℕ) (s : State) where
   unfolding push
   push-effect {x} pushes =
       either (Effect x a s) (ltb (length (s .items)) itemLimit) _ _
-      (λ room. carried (pushed pushes (ltb-true (length (s .items)) itemLimit room))) refused
+      (λ room. carried (pushed pushes (ltb-true _ _ room))) refused
 
   execute-effect : (x : Instruction) → Effect x a s (execute x a s)
   unfolding execute
