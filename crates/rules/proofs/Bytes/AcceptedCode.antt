@@ -17,6 +17,7 @@ use mathlib.Core.Path.{_≡_, refl}
 use Rattle.rules.specs.Bytes.{records}
 use Rattle.rules.specs.CodeBytes.{OpcodeRow, opcodes, opcodeNumbered, opcodeAt, operandAt, instructionAt, instructions}
 use Rattle.rules.specs.CodeBytes.{targetFits, instructionTest, codeTests}
+use Rattle.rules.specs.Code.{targetOf}
 use Rattle.rules.specs.Demand.{Meets}
 use Rattle.rules.specs.Machine.{State, fresh, Placing}
 use Rattle.rules.specs.Refusals.{firstRefusal}
@@ -25,25 +26,24 @@ use Rattle.rules.specs.declared.Status.{Status}
 use Rattle.rules.proofs.Bytes.Instructions.{length-instructions, instruction-found}
 use Rattle.rules.proofs.Lists.{below-found, done, _▸_, each-row}
 use Rattle.rules.proofs.Refusals.{unless-passed, first-none, lowest-none}
-use Rattle.rules.proofs.Step.Addresses.{Within, TargetWithin, Bounded, meets-within}
+use Rattle.rules.proofs.Step.Addresses.{Within, Bounded, meets-within}
 
-fitting-low : (word a n : ℕ) → ltb a word && leb word n ≡ true → word ≤ n
-fitting-low word a n fits = leb-true word n (and-eq-true-iff (ltb a word) (leb word n) .0 fits .1)
-
--- of each opcode of document 01's list
+-- of each opcode of document 01's list, whatever its operand
 target-within : (word a n opcode : ℕ) {row : OpcodeRow} → opcodeNumbered opcode ≡ some row
-    → targetFits (row .operand) word a n ≡ true → TargetWithin n (row .instruction word)
+    → targetFits (row .operand) word a n ≡ true → targetOf (row .instruction word) ≤ n
 unfolding opcodes targetFits
 target-within word a n =
-    let low = fitting-low word a n in
-    each-row (λ opcode row. targetFits (row .operand) word a n ≡ true → TargetWithin n (row .instruction word)) opcodes
-    ((λ e. tt) ▸ (λ e. tt) ▸ (λ e. tt) ▸ (λ e. tt) ▸ low ▸ low ▸ (λ e. tt) ▸ (λ e. tt) ▸ done)
+    let absent : true ≡ true → 0 ≤ n = λ e. omega arith in
+    let target : ltb a word && leb word n ≡ true → word ≤ n =
+    λ e. leb-true word n (and-eq-true-iff (ltb a word) (leb word n) .0 e .1) in
+    each-row (λ opcode row. targetFits (row .operand) word a n ≡ true → targetOf (row .instruction word) ≤ n) opcodes
+    (absent ▸ absent ▸ absent ▸ absent ▸ target ▸ target ▸ absent ▸ absent ▸ done)
 
 module _ (bytes : List ℕ) (a : ℕ) where
   instruction-within : (opcode : Option OpcodeRow) → opcodeAt bytes a ≡ opcode → instructionTest bytes a ≡ none
-      → TargetWithin (records bytes) (instructionAt bytes a)
+      → targetOf (instructionAt bytes a) ≤ records bytes
   unfolding opcodeAt instructionAt instructionTest
-  instruction-within none e test = rw (e, instructionAt) tt
+  instruction-within none e test = rw (e, instructionAt) (omega arith)
   instruction-within (some row) e test =
       let fields = first-none _ _ (rw (e, instructionTest) at test) .1 in
       let fits : targetFits (row .operand) (operandAt bytes a) a (records bytes) ≡ true =

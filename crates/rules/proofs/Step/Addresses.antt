@@ -13,10 +13,10 @@ use lib.ListN.{length, getElem?}
 use mathlib.Core.List.{List, [], _∷_}
 use mathlib.Core.Option.{some}
 use mathlib.Core.Path.{_≡_}
+use Rattle.rules.specs.Code.{targetOf}
 use Rattle.rules.specs.Demand.{Meets, here, later}
 use Rattle.rules.specs.Machine.{State, Mode, Running, Unwinding, Step, Placing, Next, Over, Stuck, step}
 use Rattle.rules.specs.declared.Instruction.{Instruction}
-use Rattle.rules.specs.declared.Instruction.the-variants.{Push, Throw, Add, Pop, Mark, Unmark, Set, Reset}
 use Rattle.rules.specs.declared.Item.{Item}
 use Rattle.rules.specs.declared.Item.the-variants.{Number, Handler, Saved}
 use Rattle.rules.specs.declared.Status.{Status}
@@ -41,18 +41,8 @@ pub record Within (n : ℕ) (s : State) : Type 0 where
   pub address : At n (s .mode)
   pub handlers : Handlers n (s .items)
 
-abbrev pub TargetWithin : ℕ → Instruction → Type 0
-TargetWithin n (Push k) = Unit
-TargetWithin n Throw = Unit
-TargetWithin n Add = Unit
-TargetWithin n Pop = Unit
-TargetWithin n (Mark t) = t ≤ n
-TargetWithin n (Unmark t) = t ≤ n
-TargetWithin n (Set i) = Unit
-TargetWithin n Reset = Unit
-
 pub record Bounded (n : ℕ) (code : List Instruction) : Type 0 where
-  pub targets : (a : ℕ) (x : Instruction) → getElem? code a ≡ some x → TargetWithin n x
+  pub targets : (a : ℕ) (x : Instruction) → getElem? code a ≡ some x → targetOf x ≤ n
 
 -- ---- a step
 
@@ -62,14 +52,14 @@ Keeps n (Over o) = Unit
 Keeps n (Stuck r) = Unit
 
 module _ (n : ℕ) where
-  pushed-within : {i j : Status} {x : Instruction} {item : Item} (rest : List Item) → Pushes i x item j → TargetWithin n x
+  pushed-within : {i j : Status} {x : Instruction} {item : Item} (rest : List Item) → Pushes i x item j → targetOf x ≤ n
       → Handlers n rest → Handlers n (item ∷ rest)
   pushed-within rest number target handlers = handlers
   pushed-within rest handler target handlers = (target, handlers)
   pushed-within rest saved target handlers = handlers
 
   taken-within : {a b : ℕ} {i j : Status} {x : Instruction} {item : Item} (rest : List Item) → Takes a i x item b j → a < n
-      → TargetWithin n x → Handlers n (item ∷ rest) → (b ≤ n) × Handlers n rest
+      → targetOf x ≤ n → Handlers n (item ∷ rest) → (b ≤ n) × Handlers n rest
   taken-within rest number below target handlers = (omega arith, handlers)
   taken-within rest handler below target handlers = (target, handlers .1)
   taken-within rest saved below target handlers = (omega arith, handlers)
@@ -81,7 +71,7 @@ module _ (n : ℕ) where
   undone-within rest saved handlers = (tt, handlers)
 
   module _ (s : State) (within : Handlers n (s .items)) where
-    change-within : {x : Instruction} {a : ℕ} {m : Mode} {j : Status} {items : List Item} → a < n → TargetWithin n x
+    change-within : {x : Instruction} {a : ℕ} {m : Mode} {j : Status} {items : List Item} → a < n → targetOf x ≤ n
         → Change x a s m j items → At n m × Handlers n items
     change-within below target (pushed pushes room) = (omega arith, pushed-within (s .items) pushes target within)
     change-within below target (popped e) = (omega arith, rw e at within)
