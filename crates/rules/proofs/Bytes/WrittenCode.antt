@@ -19,7 +19,6 @@ use mathlib.Core.Bool.{true, _&&_}
 use mathlib.Core.List.{List, [], _∷_}
 use mathlib.Core.Option.{Option, none, some}
 use mathlib.Core.Path.{_≡_, refl, sym, ap, _∙_}
-use Rattle.rules.specs.Answers.{statusNumber, statusNumbered}
 use Rattle.rules.specs.Bytes.{byteAt, halfAt, wordAt, wordBytes, allZero, records, rowNumbered}
 use Rattle.rules.specs.CodeBytes.{instructionRecord, instructionBytes, bytesOf, OpcodeRow, opcodes, opcodeAt, operandAt}
 use Rattle.rules.specs.CodeBytes.{instructionAt, instructionsBelow, instructions}
