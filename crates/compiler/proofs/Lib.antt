@@ -2,5 +2,4 @@ pub mod Compiling
 pub mod Emitting
 pub mod Fits
 pub mod Operands
-pub mod Stores
 pub mod Writing

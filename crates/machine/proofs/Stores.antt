@@ -1,8 +1,5 @@
 -- What a record stored in the stack says, the record being the eight bytes of a tag and an operand.
 --
---   sets-below       a run of stores leaves what lies before it
---   sets-at          what stands at a place of the run
---   drop-sets        it leaves what lies past it
 --   recorded         the stack with a record stored at place k
 --   recorded-tag, recorded-operand
 --                    the record's two fields, read back
@@ -18,10 +15,9 @@
 use Prim.Native.Nat.{ℕ, zero, suc, _+_, _*_, _^_, _≤_, _<_}
 use native.Mathlib.Omega.{arith}
 use lib.IntN.{ℤ}
-use lib.ListN.{length, getD, set, drop, length-set}
-use lib.Seq.{sets, getD-set-same, getD-set-other, drop-set-lt}
-use mathlib.Core.List.{List, [], _∷_}
-use mathlib.Core.Logic.{_≢_}
+use lib.ListN.{length, drop}
+use lib.Seq.{sets}
+use mathlib.Core.List.{List, _∷_}
 use mathlib.Core.Path.{_≡_, refl, sym, ap, _∙_}
 use mir.Syntax.{w32}
 use mir.Val.{SFits}
@@ -33,39 +29,9 @@ use Rattle.rules.specs.Number.{residue}
 use Rattle.rules.specs.declared.Item.{Item}
 use Rattle.rules.specs.declared.Item.the-variants.{Number}
 use Rattle.rules.proofs.Bytes.Records.{word-whole}
+use Rattle.rules.proofs.Stores.{sets-below, sets-at, drop-sets}
 use Rattle.record.proofs.Signed.{signed-toZ, residue-ofZ}
 use Rattle.machine.specs.Items.{itemTagged, itemAt, itemsOf, Stored}
-
--- ---- runs of stores
-
-module _ {ℓ} {A : Type ℓ} where
-  pub sets-below : (l : List A) (i : ℕ) (vs : List A) (j : ℕ) (d : A) → j < i → getD (sets l i vs) j d ≡ getD l j d
-  sets-below l i [] j d h = refl
-  sets-below l i (v ∷ vs) j d h =
-      let apart : j ≢ i = λ e. omega arith in
-      let below : j < suc i = omega arith in
-      sets-below (set l i v) (suc i) vs j d below ∙ getD-set-other l i j v d apart
-
-  pub sets-at : (l : List A) (i : ℕ) (vs : List A) (n : ℕ) (d : A) → n < length vs → i + length vs ≤ length l
-      → getD (sets l i vs) (i + n) d ≡ getD vs n d
-  sets-at l i [] n d h room = absurd (omega arith)
-  sets-at l i (v ∷ vs) zero d h room =
-      let here : i + 0 ≡ i = omega arith in
-      let first : i < suc i = omega arith in
-      let inside : i < length l = omega arith in
-      rw here (sets-below (set l i v) (suc i) vs i d first ∙ getD-set-same l i v d inside)
-  sets-at l i (v ∷ vs) (suc n) d h room =
-      let there : i + suc n ≡ suc i + n = omega arith in
-      let rest : n < length vs = omega arith in
-      let fits : suc i + length vs ≤ length (set l i v) = simp length-set (omega arith) in
-      rw there (sets-at (set l i v) (suc i) vs n d rest fits)
-
-  pub drop-sets : (n : ℕ) (l : List A) (i : ℕ) (vs : List A) → i + length vs ≤ n → drop n (sets l i vs) ≡ drop n l
-  drop-sets n l i [] h = refl
-  drop-sets n l i (v ∷ vs) h =
-      let below : i < n = omega arith in
-      let rest : suc i + length vs ≤ n = omega arith in
-      drop-sets n (set l i v) (suc i) vs rest ∙ drop-set-lt n l i v below
 
 -- ---- a record at place k
 
