@@ -49,13 +49,13 @@ module _ (stack : List ℕ) (k tag operand : ℕ) (room : 8 * k + 7 < length sta
       let fits : 8 * k + length (instructionRecord tag operand) ≤ length stack = simp length-record (omega arith) in
       sets-at stack (8 * k) (instructionRecord tag operand) n 0 inside fits
 
-  pub recorded-tag : byteAt (recorded stack k tag operand) (8 * k) ≡ tag
+  recorded-tag : byteAt (recorded stack k tag operand) (8 * k) ≡ tag
   unfolding instructionRecord
   recorded-tag =
       let here : 8 * k ≡ 8 * k + 0 = omega arith in
       ap (byteAt (recorded stack k tag operand)) here ∙ recorded-byte 0 (omega arith)
 
-  pub recorded-operand : operand < 2 ^ 32 → wordAt (recorded stack k tag operand) (8 * k + 4) ≡ operand
+  recorded-operand : operand < 2 ^ 32 → wordAt (recorded stack k tag operand) (8 * k + 4) ≡ operand
   unfolding wordAt halfAt instructionRecord wordBytes
   recorded-operand h =
       let five : 8 * k + 4 + 1 ≡ 8 * k + 5 = omega arith in
@@ -71,14 +71,14 @@ module _ (stack : List ℕ) (k tag operand : ℕ) (room : 8 * k + 7 < length sta
       )
       (word-whole operand h)))
 
-  pub item-same : operand < 2 ^ 32 → itemAt (recorded stack k tag operand) k ≡ itemTagged tag operand
+  item-same : operand < 2 ^ 32 → itemAt (recorded stack k tag operand) k ≡ itemTagged tag operand
   unfolding itemAt
   item-same h = rw (recorded-tag, recorded-operand h)
 
   byte-below : (i : ℕ) → i < 8 * k → byteAt (recorded stack k tag operand) i ≡ byteAt stack i
   byte-below i = sets-below stack (8 * k) (instructionRecord tag operand) i 0
 
-  pub item-below : (j : ℕ) → j < k → itemAt (recorded stack k tag operand) j ≡ itemAt stack j
+  item-below : (j : ℕ) → j < k → itemAt (recorded stack k tag operand) j ≡ itemAt stack j
   unfolding itemAt wordAt halfAt
   item-below j h =
       rw (
@@ -89,19 +89,19 @@ module _ (stack : List ℕ) (k tag operand : ℕ) (room : 8 * k + 7 < length sta
         byte-below (8 * j + 4 + 2 + 1) (omega arith),
       )
 
-  pub items-below : (h : ℕ) → h ≤ k → itemsOf (recorded stack k tag operand) h ≡ itemsOf stack h
+  items-below : (h : ℕ) → h ≤ k → itemsOf (recorded stack k tag operand) h ≡ itemsOf stack h
   unfolding itemsOf
   items-below zero l = refl
   items-below (suc h) l = rw (item-below h (omega arith), items-below h (omega arith))
 
-  pub items-over : operand < 2 ^ 32 → itemsOf (recorded stack k tag operand) (k + 1) ≡ itemTagged tag operand ∷ itemsOf stack k
+  items-over : operand < 2 ^ 32 → itemsOf (recorded stack k tag operand) (k + 1) ≡ itemTagged tag operand ∷ itemsOf stack k
   unfolding itemsOf
   items-over h =
       let next : k + 1 ≡ suc k = omega arith in
       let all : k ≤ k = omega arith in
       rw next (rw (item-same h, items-below k all))
 
-pub beyond-same : (stack : List ℕ) (k tag operand : ℕ) → k < itemLimit
+beyond-same : (stack : List ℕ) (k tag operand : ℕ) → k < itemLimit
     → drop stackBytes (recorded stack k tag operand) ≡ drop stackBytes stack
 beyond-same stack k tag operand h =
     let below : 8 * k + length (instructionRecord tag operand) ≤ stackBytes = simp length-record (omega arith) in

@@ -11,7 +11,7 @@ use Rattle.rules.specs.Limits.{stepLimit}
 use Rattle.rules.specs.Run.{runs}
 use Rattle.rules.specs.Schedule.{asks}
 use Rattle.machine.specs.States.{AtInstruction}
-use Rattle.machine.proofs.Underway.{Underway, GoesOn, rest, begun, joined}
+use Rattle.machine.proofs.Underway.{Underway, GoesOn, rest, underway-here, underway-through}
 use Rattle.machine.proofs.Turns.{whole-run, at-the-length, nothing-to-unwind, an-item-to-unwind, unwound, limit-unwinding}
 use Rattle.machine.proofs.Turns.{at-an-instruction, limit-at-an-instruction, full-at-an-instruction}
 use Rattle.machine.proofs.Turns.{no-rule-at-an-instruction, stepped}
@@ -67,14 +67,14 @@ within : (c : tie.At-loop Inv-loop μ-loop Inv-run μ-run) →
     let s = new .before .before .before .before .args in
     Underway (instructions (s .code .now)) (asks (s .schedule .now)) (s .stack .now) (step .step .last .1 .1 .1 .0)
     (new .new .result) (c .loop .machine)
-within c = joined (on (c .before) .1) (c .loop .inv)
+within c = underway-through (on (c .before) .1) (c .loop .inv)
 
 -- ---- the outer loop
 
 run-holds : tie.Need-run-holds Inv-loop μ-loop Inv-run μ-run
 run-holds c =
     rw (c .new .ensures)
-    (begun (c .before .before .before .before .args .stack .now) (omega arith) (omega arith) (omega arith), refl)
+    (underway-here (c .before .before .before .before .args .stack .now) (omega arith) (omega arith) (omega arith), refl)
 
 at-length-requires : tie.Need-at-length-requires Inv-loop μ-loop Inv-run μ-run
 at-length-requires c κs =
@@ -93,12 +93,12 @@ run-less : tie.Need-run-less Inv-loop μ-loop Inv-run μ-run
 run-less c = omega (arith, on (c .before .before) .0, c .before .loop .inv .later, c .before .loop .inv .steps)
 
 run-again : tie.Need-run-again Inv-loop μ-loop Inv-run μ-run
-run-again c = (joined (on (c .before .before) .1) (c .before .loop .inv), c .loop-test .left)
+run-again c = (underway-through (on (c .before .before) .1) (c .before .loop .inv), c .loop-test .left)
 
 -- ---- the inner loop
 
 loop-holds : tie.Need-loop-holds Inv-loop μ-loop Inv-run μ-run
-loop-holds c = let so-far = on c .1 in begun _ (so-far .steps) (so-far .reached) (so-far .height)
+loop-holds c = let so-far = on c .1 in underway-here _ (so-far .steps) (so-far .reached) (so-far .height)
 
 unwind-requires : tie.Need-unwind-requires Inv-loop μ-loop Inv-run μ-run
 unwind-requires c κs =
