@@ -24,7 +24,7 @@ use mir.Val.{SFits}
 use mir.Facts.{toZ-ofZ}
 use Rattle.rules.specs.Bytes.{byteAt, halfAt, wordAt, wordBytes}
 use Rattle.rules.specs.CodeBytes.{instructionRecord}
-use Rattle.rules.specs.Limits.{itemLimit, stackBytes}
+use Rattle.rules.specs.Limits.{recordBytes, itemLimit, stackBytes}
 use Rattle.rules.specs.Number.{residue}
 use Rattle.rules.specs.declared.Item.{Item}
 use Rattle.rules.specs.declared.Item.the-variants.{Number}
@@ -36,31 +36,32 @@ use Rattle.machine.specs.Items.{itemTagged, itemAt, itemsOf, Stored}
 -- ---- a record at place k
 
 abbrev pub recorded : List ℕ → ℕ → ℕ → ℕ → List ℕ
-recorded stack k tag operand = sets stack (8 * k) (instructionRecord tag operand)
+recorded stack k tag operand = sets stack (recordBytes * k) (instructionRecord tag operand)
 
 length-record : (tag operand : ℕ) → length (instructionRecord tag operand) ≡ 8
 unfolding instructionRecord wordBytes
 length-record tag operand = refl
 
-module _ (stack : List ℕ) (k tag operand : ℕ) (room : 8 * k + 7 < length stack) where
-  recorded-byte : (n : ℕ) → n < 8 → byteAt (recorded stack k tag operand) (8 * k + n) ≡ byteAt (instructionRecord tag operand) n
+module _ (stack : List ℕ) (k tag operand : ℕ) (room : recordBytes * k + 7 < length stack) where
+  recorded-byte : (n : ℕ) → n < recordBytes
+      → byteAt (recorded stack k tag operand) (recordBytes * k + n) ≡ byteAt (instructionRecord tag operand) n
   recorded-byte n h =
       let inside : n < length (instructionRecord tag operand) = simp length-record h in
-      let fits : 8 * k + length (instructionRecord tag operand) ≤ length stack = simp length-record (omega arith) in
-      sets-at stack (8 * k) (instructionRecord tag operand) n 0 inside fits
+      let fits : recordBytes * k + length (instructionRecord tag operand) ≤ length stack = simp length-record (omega arith) in
+      sets-at stack (recordBytes * k) (instructionRecord tag operand) n 0 inside fits
 
-  recorded-tag : byteAt (recorded stack k tag operand) (8 * k) ≡ tag
+  recorded-tag : byteAt (recorded stack k tag operand) (recordBytes * k) ≡ tag
   unfolding instructionRecord
   recorded-tag =
-      let here : 8 * k ≡ 8 * k + 0 = omega arith in
+      let here : recordBytes * k ≡ recordBytes * k + 0 = omega arith in
       ap (byteAt (recorded stack k tag operand)) here ∙ recorded-byte 0 (omega arith)
 
-  recorded-operand : operand < 2 ^ 32 → wordAt (recorded stack k tag operand) (8 * k + 4) ≡ operand
+  recorded-operand : operand < 2 ^ 32 → wordAt (recorded stack k tag operand) (recordBytes * k + 4) ≡ operand
   unfolding wordAt halfAt instructionRecord wordBytes
   recorded-operand h =
-      let five : 8 * k + 4 + 1 ≡ 8 * k + 5 = omega arith in
-      let six : 8 * k + 4 + 2 ≡ 8 * k + 6 = omega arith in
-      let seven : 8 * k + 6 + 1 ≡ 8 * k + 7 = omega arith in
+      let five : recordBytes * k + 4 + 1 ≡ recordBytes * k + 5 = omega arith in
+      let six : recordBytes * k + 4 + 2 ≡ recordBytes * k + 6 = omega arith in
+      let seven : recordBytes * k + 6 + 1 ≡ recordBytes * k + 7 = omega arith in
       rw six
       (rw (five, seven)
       (rw (
@@ -75,18 +76,18 @@ module _ (stack : List ℕ) (k tag operand : ℕ) (room : 8 * k + 7 < length sta
   unfolding itemAt
   item-same h = rw (recorded-tag, recorded-operand h)
 
-  byte-below : (i : ℕ) → i < 8 * k → byteAt (recorded stack k tag operand) i ≡ byteAt stack i
-  byte-below i = sets-below stack (8 * k) (instructionRecord tag operand) i 0
+  byte-below : (i : ℕ) → i < recordBytes * k → byteAt (recorded stack k tag operand) i ≡ byteAt stack i
+  byte-below i = sets-below stack (recordBytes * k) (instructionRecord tag operand) i 0
 
   item-below : (j : ℕ) → j < k → itemAt (recorded stack k tag operand) j ≡ itemAt stack j
   unfolding itemAt wordAt halfAt
   item-below j h =
       rw (
-        byte-below (8 * j) (omega arith),
-        byte-below (8 * j + 4) (omega arith),
-        byte-below (8 * j + 4 + 1) (omega arith),
-        byte-below (8 * j + 4 + 2) (omega arith),
-        byte-below (8 * j + 4 + 2 + 1) (omega arith),
+        byte-below (recordBytes * j) (omega arith),
+        byte-below (recordBytes * j + 4) (omega arith),
+        byte-below (recordBytes * j + 4 + 1) (omega arith),
+        byte-below (recordBytes * j + 4 + 2) (omega arith),
+        byte-below (recordBytes * j + 4 + 2 + 1) (omega arith),
       )
 
   items-below : (h : ℕ) → h ≤ k → itemsOf (recorded stack k tag operand) h ≡ itemsOf stack h
@@ -104,8 +105,8 @@ module _ (stack : List ℕ) (k tag operand : ℕ) (room : 8 * k + 7 < length sta
 beyond-same : (stack : List ℕ) (k tag operand : ℕ) → k < itemLimit
     → drop stackBytes (recorded stack k tag operand) ≡ drop stackBytes stack
 beyond-same stack k tag operand h =
-    let below : 8 * k + length (instructionRecord tag operand) ≤ stackBytes = simp length-record (omega arith) in
-    drop-sets stackBytes stack (8 * k) (instructionRecord tag operand) below
+    let below : recordBytes * k + length (instructionRecord tag operand) ≤ stackBytes = simp length-record (omega arith) in
+    drop-sets stackBytes stack (recordBytes * k) (instructionRecord tag operand) below
 
 -- ---- an item put
 
@@ -117,7 +118,7 @@ pub stored : {stack : List ℕ} {k : ℕ} {item : Item} {after : List ℕ} (tag 
     → stackBytes ≤ length stack → k < itemLimit → operand < 2 ^ 32
     → itemTagged tag operand ≡ item → after ≡ recorded stack k tag operand → Stored stack k item after
 stored {stack} {k} {item} {after} tag operand room place small said e =
-    let inside : 8 * k + 7 < length stack = omega arith in
+    let inside : recordBytes * k + 7 < length stack = omega arith in
     record {
       items = rw (e, items-over stack k tag operand inside small, said);
       beyond = rw e (beyond-same stack k tag operand place);

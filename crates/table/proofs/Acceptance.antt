@@ -25,6 +25,7 @@ use Rattle.rules.specs.Bytes.{records}
 use Rattle.rules.specs.Checking.{checkAnswer}
 use Rattle.rules.specs.Code.{codeLength}
 use Rattle.rules.specs.Expression.{nodes}
+use Rattle.rules.specs.Limits.{recordBytes}
 use Rattle.rules.specs.Recipe.{expressionAt, recipe}
 use Rattle.rules.specs.Refusals.{firstRefusal}
 use Rattle.rules.specs.Table.{nodeAt, allBelow, nodeTest, useTest, tableTests}
@@ -62,7 +63,7 @@ accepted table e =
 -- ---- a node
 
 module _ {table : List ℕ} {j : ℕ} (here : AcceptedNode table j) where
-  pub record-inside : 8 * j + 7 < length table
+  pub record-inside : recordBytes * j + 7 < length table
   record-inside = omega (arith, here .accepted .size, here .within)
 
   pub says : {read node : Node} → read ≡ nodeAt table j → read ≡ node → Says table j node
