@@ -4,7 +4,8 @@
 --   stored          instructions, stored from address a on
 --   emitted         an expression's
 --   placed          one instruction, stored at address a
---   emits-val, emits-throw, emits-add, emits-seqn, emits-catch, emits-block, emits-unblock   a kind of node each
+--   emits-val, emits-throw, emits-add, emits-seqn, emits-catch
+--                   a kind of node each
 --   emits-scope     SET i, x, RESET: what Block and Unblock have in common
 --   emitted-front   the whole code stands in front of what was there
 --
@@ -18,23 +19,23 @@ use mathlib.Core.List.{List, [], _∷_, _++_, append-nil}
 use mathlib.Core.Path.{_≡_, refl}
 use Rattle.rules.specs.Code.{codeLength, compile}
 use Rattle.rules.specs.CodeBytes.{instructionBytes, bytesOf}
-use Rattle.rules.specs.Expression.{Expression, Val, Throw, Add, Seqn, Catch, Block, Unblock}
+use Rattle.rules.specs.Expression.{Expression, Val, Throw, Add, Seqn, Catch}
+use Rattle.rules.specs.Limits.{recordBytes}
 use Rattle.rules.specs.declared.Status.{Status}
-use Rattle.rules.specs.declared.Status.the-variants.{Blocked, Unblocked}
 use Rattle.rules.specs.declared.Instruction.{Instruction}
 use Rattle.rules.specs.declared.Instruction.the-variants.{Push, Pop, Mark, Unmark, Set, Reset}
 use Rattle.rules.proofs.Theory.Holding.{length-compile}
 use Rattle.rules.proofs.Bytes.CodeBytes.{length-bytesOf, length-bytesOf-compile, bytesOf-append}
 use Rattle.rules.proofs.Stores.{sets-append, sets-comm, sets-front}
 
-abbrev pub stored : List ℕ → ℕ → List Instruction → List ℕ
-stored code a xs = sets code (8 * a) (bytesOf xs)
+abbrev stored : List ℕ → ℕ → List Instruction → List ℕ
+stored code a xs = sets code (recordBytes * a) (bytesOf xs)
 
-abbrev pub emitted : List ℕ → ℕ → Expression → List ℕ
+abbrev emitted : List ℕ → ℕ → Expression → List ℕ
 emitted code at e = stored code at (compile at e)
 
-abbrev pub placed : List ℕ → ℕ → Instruction → List ℕ
-placed code a x = sets code (8 * a) (instructionBytes x)
+abbrev placed : List ℕ → ℕ → Instruction → List ℕ
+placed code a x = sets code (recordBytes * a) (instructionBytes x)
 
 -- ---- runs of instructions
 
@@ -45,13 +46,13 @@ placed-stored code a x = rw (append-nil (instructionBytes x))
 module _ (code : List ℕ) (a : ℕ) (xs : List Instruction) (b : ℕ) (ys : List Instruction) where
   stored-append : b ≡ a + length xs → stored (stored code a xs) b ys ≡ stored code a (xs ++ ys)
   stored-append h =
-      let place : 8 * b ≡ 8 * a + length (bytesOf xs) = omega (arith, length-bytesOf xs) in
+      let place : recordBytes * b ≡ recordBytes * a + length (bytesOf xs) = omega (arith, length-bytesOf xs) in
       rw (bytesOf-append, sets-append, place)
 
   stored-comm : a + length xs ≤ b → stored (stored code b ys) a xs ≡ stored (stored code a xs) b ys
   stored-comm h =
-      let apart : 8 * a + length (bytesOf xs) ≤ 8 * b = omega (arith, length-bytesOf xs) in
-      rw (sets-comm code (8 * a) (bytesOf xs) (8 * b) (bytesOf ys) apart)
+      let apart : recordBytes * a + length (bytesOf xs) ≤ recordBytes * b = omega (arith, length-bytesOf xs) in
+      rw (sets-comm code (recordBytes * a) (bytesOf xs) (recordBytes * b) (bytesOf ys) apart)
 
 stored-three : (code : List ℕ) (a : ℕ) (xs : List Instruction) (b : ℕ) (ys : List Instruction) (c : ℕ) (zs : List Instruction)
     → b ≡ a + length xs → c ≡ b + length ys → stored (stored (stored code a xs) b ys) c zs ≡ stored code a (xs ++ ys ++ zs)
@@ -61,7 +62,8 @@ stored-three code a xs b ys c zs h k =
 
 -- MARK and UNMARK are stored after the code that they stand before.
 stored-late : (code : List ℕ) (a : ℕ) (x : Instruction) (xs : List Instruction) (b : ℕ) (y : Instruction) (ys : List Instruction)
-    → b ≡ a + 1 + length xs → stored (stored (stored (stored code (a + 1) xs) (b + 1) ys) a (x ∷ [])) b (y ∷ []) ≡ stored code a (x ∷ xs ++ y ∷ ys)
+    → b ≡ a + 1 + length xs
+    → stored (stored (stored (stored code (a + 1) xs) (b + 1) ys) a (x ∷ [])) b (y ∷ []) ≡ stored code a (x ∷ xs ++ y ∷ ys)
 stored-late code a x xs b y ys h =
     let below : a + 1 ≤ b + 1 = omega arith in
     let next : a + 1 ≤ a + 1 = omega arith in
@@ -100,7 +102,8 @@ module _ (code : List ℕ) (at : ℕ) where
   unfolding compile
   emits-seqn x y b h =
       let mid : b ≡ at + length (compile at x) = simp length-compile h in
-      rw (placed-stored, ← h, ← append-snoc) (stored-three code at (compile at x) b (Pop ∷ []) (b + 1) (compile (b + 1) y) mid refl)
+      rw (placed-stored, ← h, ← append-snoc)
+      (stored-three code at (compile at x) b (Pop ∷ []) (b + 1) (compile (b + 1) y) mid refl)
 
   pub emits-catch : (x y : Expression) (b c : ℕ) → b ≡ at + 1 + codeLength x → c ≡ b + 1 + codeLength y
       → placed (placed (emitted (emitted code (at + 1) x) (b + 1) y) at (Mark (b + 1))) b (Unmark c) ≡ emitted code at (Catch x y)
@@ -108,7 +111,8 @@ module _ (code : List ℕ) (at : ℕ) where
   emits-catch x y b c h k =
       let handler : at + codeLength x + 2 ≡ b + 1 = omega arith in
       let mid : b ≡ at + 1 + length (compile (at + 1) x) = simp length-compile h in
-      simp (placed-stored, handler, ← k) (stored-late code at (Mark (b + 1)) (compile (at + 1) x) b (Unmark c) (compile (b + 1) y) mid)
+      simp (placed-stored, handler, ← k)
+      (stored-late code at (Mark (b + 1)) (compile (at + 1) x) b (Unmark c) (compile (b + 1) y) mid)
 
   pub emits-scope : (i : Status) (x : Expression) (b : ℕ) → b ≡ at + 1 + codeLength x
       → placed (emitted (placed code at (Set i)) (at + 1) x) b Reset ≡ stored code at (Set i ∷ compile (at + 1) x ++ (Reset ∷ []))
@@ -116,21 +120,11 @@ module _ (code : List ℕ) (at : ℕ) where
       let end : b ≡ at + 1 + length (compile (at + 1) x) = simp length-compile h in
       simp placed-stored (stored-three code at (Set i ∷ []) (at + 1) (compile (at + 1) x) b (Reset ∷ []) refl end)
 
-  pub emits-block : (x : Expression) (b : ℕ) → b ≡ at + 1 + codeLength x
-      → placed (emitted (placed code at (Set Blocked)) (at + 1) x) b Reset ≡ emitted code at (Block x)
-  unfolding compile
-  emits-block = emits-scope Blocked
-
-  pub emits-unblock : (x : Expression) (b : ℕ) → b ≡ at + 1 + codeLength x
-      → placed (emitted (placed code at (Set Unblocked)) (at + 1) x) b Reset ≡ emitted code at (Unblock x)
-  unfolding compile
-  emits-unblock = emits-scope Unblocked
-
 -- ---- the whole code
 
-pub emitted-front : (code : List ℕ) (e : Expression) → 8 * codeLength e ≤ length code
-    → emitted code 0 e ≡ bytesOf (compile 0 e) ++ drop (8 * codeLength e) code
+pub emitted-front : (code : List ℕ) (e : Expression) → recordBytes * codeLength e ≤ length code
+    → emitted code 0 e ≡ bytesOf (compile 0 e) ++ drop (recordBytes * codeLength e) code
 emitted-front code e h =
-    let size : length (bytesOf (compile 0 e)) ≡ 8 * codeLength e = length-bytesOf-compile 0 e in
+    let size : length (bytesOf (compile 0 e)) ≡ recordBytes * codeLength e = length-bytesOf-compile 0 e in
     let fits : length (bytesOf (compile 0 e)) ≤ length code = omega arith in
     rw size at (sets-front code (bytesOf (compile 0 e)) fits)

@@ -1,1 +1,1 @@
-pub mod Quiet
+pub mod Evaluating

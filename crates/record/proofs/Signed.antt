@@ -2,10 +2,10 @@
 --
 --   signed-toZ       the signed reading of 32 bits is `signed`
 --   residue-ofZ      the bits of a signed number are its `residue`
---   below-zero, not-below-zero
---                    a number by its sign
---   minus-one-less-negsuc, minus-one-less-pos
---                    -1 - z takes one half to the other
+--   Negative, Positive, negative, positive
+--                    a number by its sign, with its bits
+--   minus-one-less-pos
+--                    -1 - z takes the positive half to the negative one
 --   residue-sum      the residue of a sum is the wrapped sum of the residues
 --
 -- Assumes nothing.
@@ -39,23 +39,34 @@ residue-ofZ {z = negsuc n} fits = let small : n < 2 ^ 31 = fits .sfits in omega 
 
 -- ---- the two halves
 
-pub below-zero : (z : ℤ) → ltZ z (pos 0) ≡ true → z ≡ negsuc (mag z)
-below-zero (pos n) h = let below : n < 0 = ltb-true n 0 h in absurd (omega arith)
-below-zero (negsuc n) h = refl
+-- -1 - z of a negative z is at most 2^31 - 1, and 2^32 - 1 less that is its bits
+pub record Negative (z : ℤ) : Type 0 where
+  pub rest : negsuc 0 -ℤ z ≡ pos (mag z)
+  pub small : mag z < 2 ^ 31
+  pub bits : 2 ^ 32 - 1 - mag z ≡ residue z
 
-pub not-below-zero : (z : ℤ) → ltZ z (pos 0) ≡ false → z ≡ pos (mag z)
-not-below-zero (pos n) h = refl
-not-below-zero (negsuc n) h = let never : _≡_ {A = ℕ} 0 1 = cc in absurd (omega arith)
+pub record Positive (z : ℤ) : Type 0 where
+  pub same : z ≡ pos (mag z)
+  pub small : mag z < 2 ^ 31
+  pub bits : mag z ≡ residue z
 
-pub minus-one-less-negsuc : (n : ℕ) → negsuc 0 -ℤ negsuc n ≡ pos n
-minus-one-less-negsuc n =
+pub negative : (z : ℤ) → SFits w32 z → ltZ z (pos 0) ≡ true → Negative z
+unfolding residue
+negative (pos n) fits h = let below : n < 0 = ltb-true n 0 h in absurd (omega arith)
+negative (negsuc n) fits h =
     let not-less : ltb (suc n) 1 ≡ false = le-ltb (suc n) 1 (omega arith) in
     let left : suc n - 1 ≡ n = omega arith in
-    rw (not-less, left)
+    let low : n < 2 ^ 31 = fits .sfits in
+    record { rest = rw (not-less, left); small = low; bits = omega arith }
+
+pub positive : (z : ℤ) → SFits w32 z → ltZ z (pos 0) ≡ false → Positive z
+unfolding residue
+positive (pos n) fits h = let low : n < 2 ^ 31 = fits .sfits in record { same = refl; small = low; bits = omega arith }
+positive (negsuc n) fits h = let differ : _≡_ {A = ℕ} 0 1 = cc in absurd (omega arith)
 
 pub minus-one-less-pos : (n : ℕ) → negsuc 0 -ℤ pos n ≡ negsuc n
 minus-one-less-pos zero = refl
-minus-one-less-pos (suc n) = let whole : 0 + n ≡ n = omega arith in rw whole
+minus-one-less-pos (suc n) = let same : 0 + n ≡ n = omega arith in rw same
 
 -- ---- sums
 

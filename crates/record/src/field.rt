@@ -1,4 +1,5 @@
-// Fields of lent bytes, little-endian (document 01, "The recipe table" and "The code"). Each asks that it lies inside.
+// Fields of lent bytes, little-endian (document 01, "The recipe table" and "The code"). Each asks that it lies inside, and those
+// that are added up also say how large they are at most, so that a sum of them does not wrap.
 
 ghost use mathlib.Core.List.{_++_};
 ghost use mathlib.Core.Path.{_≡_};
@@ -8,7 +9,6 @@ ghost use lib.Seq.{sets};
 ghost use Rattle.rules.specs.Bytes.{byteAt, halfAt, wordAt};
 ghost use Rattle.rules.specs.CodeBytes.{instructionRecord};
 
-// One byte.
 pub fn byte(bytes: &[u8], at: usize) -> usize
     requires { ⌜ at < length (now bytes) ⌝ }
     ensures { λ r. ⌜ (r ≡ byteAt (now (bytes .entry)) at) × (r < 256) ⌝ }
@@ -16,7 +16,6 @@ pub fn byte(bytes: &[u8], at: usize) -> usize
     bytes[at] as usize
 }
 
-// Two bytes.
 pub fn half(bytes: &[u8], at: usize) -> usize
     requires { ⌜ at + 1 < length (now bytes) ⌝ }
     ensures { λ r. ⌜ (r ≡ halfAt (now (bytes .entry)) at) × (r < 65536) ⌝ }
@@ -24,7 +23,6 @@ pub fn half(bytes: &[u8], at: usize) -> usize
     byte(bytes, at) + 256 * byte(bytes, at + 1)
 }
 
-// Four bytes.
 pub fn word(bytes: &[u8], at: usize) -> u32
     requires { ⌜ at + 3 < length (now bytes) ⌝ }
     ensures { λ r. ⌜ r ≡ wordAt (now (bytes .entry)) at ⌝ }
@@ -32,7 +30,7 @@ pub fn word(bytes: &[u8], at: usize) -> u32
     (half(bytes, at) + 65536 * half(bytes, at + 2)) as u32
 }
 
-// A whole record: a tag, three zero bytes and an operand.
+// An instruction's record and an item's have one form: a tag, three zero bytes and an operand.
 pub fn put(bytes: &mut [u8], at: usize, tag: u8, operand: u32)
     requires { ⌜ at + 7 < length (now bytes) ⌝ }
     ensures { λ _. ⌜ now (bytes .exit) ≡ sets (now (bytes .entry)) at (instructionRecord tag operand) ⌝ }
@@ -47,7 +45,7 @@ pub fn put(bytes: &mut [u8], at: usize, tag: u8, operand: u32)
     bytes[at + 7] = (operand / 16777216 % 256) as u8;
 }
 
-// The first so many bytes, made zero.
+// A run leaves nothing of its stack: "the first 4,096 bytes are zero afterwards and the rest is untouched."
 pub fn clear(bytes: &mut [u8], count: usize)
     requires { ⌜ count ≤ length (now bytes) ⌝ }
     ensures { λ _. ⌜ now (bytes .exit) ≡ replicate count 0 ++ drop count (now (bytes .entry)) ⌝ }

@@ -25,21 +25,22 @@ module _ (a : AnswerFields) where
   unfolding lineOfKind
   throw-kind e = rw e
 
-  by-kind : (kind : ℕ) → (kind ≡ 0 → ⊥) → (kind ≡ 1 → ⊥) → refusedLine (a .refusal) (a .place) ≡ lineOfKind kind a
+  other-kind : (kind : ℕ) → (kind ≡ 0 → ⊥) → (kind ≡ 1 → ⊥) → refusedLine (a .refusal) (a .place) ≡ lineOfKind kind a
   unfolding lineOfKind
-  by-kind zero some more = absurd (some refl)
-  by-kind (suc zero) some more = absurd (more refl)
-  by-kind (suc (suc kind)) some more = refl
+  other-kind zero not-number not-throw = absurd (not-number refl)
+  other-kind (suc zero) not-number not-throw = absurd (not-throw refl)
+  other-kind (suc (suc kind)) not-number not-throw = refl
 
   pub refused-kind : (a .kind ≡ 0 → ⊥) → (a .kind ≡ 1 → ⊥) → refusedLine (a .refusal) (a .place) ≡ fieldsLine a
-  refused-kind = by-kind (a .kind)
+  refused-kind = other-kind (a .kind)
 
 pub fields-line : (a : Answer) → fieldsLine (answerFields a) ≡ answerLine a
 unfolding lineOfKind answerFields outcomeKind outcomeNumber outcomeRefusal outcomePlace outcomeLine answerLine
 fields-line a = by-outcome (a .outcome) (a .steps) (a .reached)
   where
     by-outcome : (outcome : Outcome) (steps reached : ℕ)
-        → fieldsLine (answerFields (record { outcome = outcome; steps = steps; reached = reached })) ≡ outcomeLine outcome steps reached
+        → fieldsLine (answerFields (record { outcome = outcome; steps = steps; reached = reached }))
+        ≡ outcomeLine outcome steps reached
     by-outcome (Ended (Number n)) steps reached = refl
     by-outcome (Ended Throw) steps reached = refl
     by-outcome (Refused r) steps reached = refl

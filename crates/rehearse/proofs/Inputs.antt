@@ -2,7 +2,7 @@
 --
 --   line-under-three   under 3 bytes
 --   line-too-short     shorter than it announces
---   line-whole         whole: the rehearsal of the parts into which it is cut, with the place after the table
+--   line-of-parts      neither: the rehearsal of the parts into which it is cut, with the place after the table
 --
 -- Assumes nothing.
 use Prim.Native.Nat.{ℕ, _+_, _-_, _≤_, _<_}
@@ -15,7 +15,6 @@ use mathlib.Core.List.{List}
 use mathlib.Core.Path.{_≡_}
 use Rattle.rules.specs.Bytes.{byteAt}
 use Rattle.rules.specs.Line.{refusedLine, outcomeLine, answerLine, rehearsalLine}
-use Rattle.rules.specs.Refusals.{refusalNumber}
 use Rattle.rules.specs.Rehearsal.{rehearse, tableLength, tooShort, rehearsal}
 
 module _ (input : List ℕ) where
@@ -35,10 +34,11 @@ module _ (input : List ℕ) where
   unfolding tooShort
   long-enough whole = rw (le-ltb (length input) 3 (omega arith), le-ltb (length input) (3 + tableLength input) whole)
 
-  pub line-whole : (after : ℕ) → after ≡ 3 + tableLength input → after ≤ length input
-      → answerLine (rehearse (byteAt input 0) (take (after - 3) (drop 3 input)) (take (length input - after) (drop after input))) ≡ rehearsalLine input
+  pub line-of-parts : (after : ℕ) → after ≡ 3 + tableLength input → after ≤ length input
+      → answerLine (rehearse (byteAt input 0) (take (after - 3) (drop 3 input)) (take (length input - after) (drop after input)))
+      ≡ rehearsalLine input
   unfolding rehearsalLine rehearsal
-  line-whole after announced whole =
+  line-of-parts after announced whole =
       let table : after - 3 ≡ tableLength input = omega arith in
       let rest : length (drop after input) ≤ length input - after = rw length-drop (omega arith) in
       rw (take-all (length input - after) (drop after input) rest, table, announced) (rw (long-enough (omega arith), rehearsal))

@@ -28,7 +28,8 @@ buffer = replicate codeLimit 0
 abbrev pub compiled : List ℕ → Compiled
 compiled table = compileAnswer table buffer
 
-pub code-fits : (table : List ℕ) → compiledRefusal (compiled table) ≡ 0 → recordBytes * compiledLength (compiled table) ≤ codeLimit
+pub code-fits : (table : List ℕ) → compiledRefusal (compiled table) ≡ 0
+    → recordBytes * compiledLength (compiled table) ≤ codeLimit
 code-fits table accepted =
     let all = passes table buffer accepted in
     omega (arith, code-length all, buffer-room all, length-replicate {A = ℕ} codeLimit 0)
@@ -41,11 +42,13 @@ module _ (status : ℕ) (table schedule : List ℕ) where
   refused-by (Refused r) e refused = rw (e, rehearse)
 
   pub line-refused : (compiledRefusal (compiled table) ≡ 0 → ⊥)
-      → refusedLine (compiledRefusal (compiled table)) (compiledPlace (compiled table)) ≡ answerLine (rehearse status table schedule)
+      → refusedLine (compiledRefusal (compiled table)) (compiledPlace (compiled table))
+      ≡ answerLine (rehearse status table schedule)
   line-refused = refused-by (compiled table) refl
 
   pub rehearse-accepted : compiledRefusal (compiled table) ≡ 0
-      → runAnswer status (take (recordBytes * compiledLength (compiled table)) (compileLeaves table buffer)) schedule (replicate stackBytes 0)
+      → runAnswer status (take (recordBytes * compiledLength (compiled table)) (compileLeaves table buffer)) schedule
+      (replicate stackBytes 0)
       ≡ rehearse status table schedule
   unfolding compiledLength rehearse
   rehearse-accepted accepted = rw (compile-passed table buffer (passes table buffer accepted .tests) .0, rehearse)

@@ -13,7 +13,8 @@ use mathlib.Core.Path.{_≡_, ap, _∙_}
 use Rattle.io.specs.Counts.{Counts}
 use Rattle.rehearse.specs.Written.{Written}
 
-pub written-as : {line after text other : List ℕ} {at next : ℕ} → text ≡ other → Written line at text after next → Written line at other after next
+pub written-as : {line after text other : List ℕ} {at next : ℕ} → text ≡ other → Written line at text after next
+    → Written line at other after next
 written-as e written = rw e at written
 
 pub also-written : {line middle after text more : List ℕ} {at next last : ℕ}
@@ -25,5 +26,5 @@ also-written first second = record {
 
 pub counts : {line text after : List ℕ} {next : ℕ} → Written line 0 text after next → Counts next after
 counts {after} {next} written =
-    let whole : next ≡ length (take next after) = omega (arith, written .place, ap length (written .bytes)) in
-    (omega (arith, whole, length-take next after), whole)
+    let counted : next ≡ length (take next after) = omega (arith, written .place, ap length (written .bytes)) in
+    (omega (arith, length-take next after), counted)

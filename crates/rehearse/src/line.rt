@@ -61,7 +61,8 @@ fn totals(steps: u32, reached: u32, line: &mut [u8], at: usize) -> usize
 fn ending(first: &[u8], n: u32, second: &[u8], m: u32, line: &mut [u8], at: usize) -> usize
     requires { ⌜ at + length (now first) + length (now second) + 21 ≤ length (now line) ⌝ }
     ensures { λ r. ⌜ Written (now (line .entry)) at
-        (now (first .entry) ++ Line.decimal n ++ now (second .entry) ++ Line.decimal m ++ Line.ascii "\n") (now (line .exit)) r ⌝ }
+        (now (first .entry) ++ Line.decimal n ++ now (second .entry) ++ Line.decimal m ++ Line.ascii "\n")
+        (now (line .exit)) r ⌝ }
 {
     let at = put::text(first, line, at);
     let at = put::decimal(n, line, at);

@@ -20,7 +20,7 @@ use lib.ListN.{length, take, drop}
 use lib.Seq.{take-at, drop-at}
 use mathlib.Core.List.{List}
 use mathlib.Core.Option.{Option, none, some}
-use mathlib.Core.Path.{_≡_, refl, sym, ap, _∙_}
+use mathlib.Core.Path.{_≡_, refl, sym, _∙_}
 use Rattle.rules.specs.Answers.{compiledLength, compiledRefusal}
 use Rattle.rules.specs.Bytes.{records}
 use Rattle.rules.specs.Code.{codeLength}
@@ -32,7 +32,8 @@ use Rattle.rules.specs.Recipe.{recipe}
 use Rattle.rules.specs.Refusals.{refusalNumber, unless, firstRefusal}
 use Rattle.rules.specs.Table.{tableTests}
 use Rattle.rules.specs.declared.Reason.{Reason}
-use Rattle.rules.specs.declared.Reason.the-variants.{TableSize, Kind, UnusedByte, Operand, Uses, CodeBuffer, Status, StackBuffer, CodeSize, Opcode, Field, Target, StackFull, NoRule, Steps}
+use Rattle.rules.specs.declared.Reason.the-variants.{TableSize, Kind, UnusedByte, Operand, Uses, CodeBuffer, Status, StackBuffer}
+use Rattle.rules.specs.declared.Reason.the-variants.{CodeSize, Opcode, Field, Target, StackFull, NoRule, Steps}
 use Rattle.rules.specs.declared.Refusal.{Refusal}
 use Rattle.rules.proofs.Bytes.Answered.{compile-passed, compile-refused}
 use Rattle.rules.proofs.Bytes.CodeBytes.{length-bytesOf-compile}
@@ -45,34 +46,34 @@ pub record Passes (table buffer : List ℕ) : Type 0 where
 
 -- ---- the tests
 
--- no refusal has the number 0
-numbered : (reason : Reason) → 1 ≤ refusalNumber reason
-numbered TableSize = omega arith
-numbered Kind = omega arith
-numbered UnusedByte = omega arith
-numbered Operand = omega arith
-numbered Uses = omega arith
-numbered CodeBuffer = omega arith
-numbered Status = omega arith
-numbered StackBuffer = omega arith
-numbered CodeSize = omega arith
-numbered Opcode = omega arith
-numbered Field = omega arith
-numbered Target = omega arith
-numbered StackFull = omega arith
-numbered NoRule = omega arith
-numbered Steps = omega arith
+refusal-not-zero : (reason : Reason) → 1 ≤ refusalNumber reason
+refusal-not-zero TableSize = omega arith
+refusal-not-zero Kind = omega arith
+refusal-not-zero UnusedByte = omega arith
+refusal-not-zero Operand = omega arith
+refusal-not-zero Uses = omega arith
+refusal-not-zero CodeBuffer = omega arith
+refusal-not-zero Status = omega arith
+refusal-not-zero StackBuffer = omega arith
+refusal-not-zero CodeSize = omega arith
+refusal-not-zero Opcode = omega arith
+refusal-not-zero Field = omega arith
+refusal-not-zero Target = omega arith
+refusal-not-zero StackFull = omega arith
+refusal-not-zero NoRule = omega arith
+refusal-not-zero Steps = omega arith
 
 module _ (table buffer : List ℕ) where
-  by-first : (first : Option Refusal) → firstRefusal (compileTests table buffer) ≡ first → compiledRefusal (compileAnswer table buffer) ≡ 0 → first ≡ none
+  no-first-refusal : (first : Option Refusal) → firstRefusal (compileTests table buffer) ≡ first
+      → compiledRefusal (compileAnswer table buffer) ≡ 0 → first ≡ none
   unfolding compiledRefusal
-  by-first none e accepted = refl
-  by-first (some r) e accepted =
+  no-first-refusal none e accepted = refl
+  no-first-refusal (some r) e accepted =
       let number : refusalNumber (r .reason) ≡ 0 = rw (compile-refused table buffer e .0) at accepted in
-      absurd (omega (arith, numbered (r .reason)))
+      absurd (omega (arith, refusal-not-zero (r .reason)))
 
   pub passes : compiledRefusal (compileAnswer table buffer) ≡ 0 → Passes table buffer
-  passes accepted = record { tests = by-first (firstRefusal (compileTests table buffer)) refl accepted }
+  passes accepted = record { tests = no-first-refusal (firstRefusal (compileTests table buffer)) refl accepted }
 
 -- ---- the table, and its code
 
@@ -94,10 +95,12 @@ module _ {table buffer : List ℕ} (all : Passes table buffer) where
   unfolding compiledLength
   code-length = rw (compile-passed table buffer (all .tests) .0)
 
-  pub code-left : take (recordBytes * compiledLength (compileAnswer table buffer)) (compileLeaves table buffer) ≡ bytesOf (codeOf table)
+  pub code-left : take (recordBytes * compiledLength (compileAnswer table buffer)) (compileLeaves table buffer)
+      ≡ bytesOf (codeOf table)
   unfolding codeOf
   code-left =
-      rw (compile-passed table buffer (all .tests) .1) (take-at (bytesOf (codeOf table)) _ _ (length-bytesOf-compile 0 (recipe table) ∙ ap (λ n. 8 * n) (sym code-length)))
+      rw (compile-passed table buffer (all .tests) .1, code-length)
+      (take-at (bytesOf (codeOf table)) _ _ (length-bytesOf-compile 0 (recipe table)))
 
   pub later-left : drop (recordBytes * compiledLength (compileAnswer table buffer)) (compileLeaves table buffer)
       ≡ drop (recordBytes * compiledLength (compileAnswer table buffer)) buffer
@@ -114,9 +117,12 @@ module _ {table buffer : List ℕ} (all : Passes table buffer) where
 
 -- ---- a buffer for every table
 
-pub enough : (table buffer : List ℕ) → firstRefusal (tableTests table) ≡ none → codeLimit ≤ length buffer → firstRefusal (compileTests table buffer) ≡ none
+pub enough : (table buffer : List ℕ) → firstRefusal (tableTests table) ≡ none → codeLimit ≤ length buffer
+    → firstRefusal (compileTests table buffer) ≡ none
 unfolding compileTests unless
 enough table buffer tests room =
-    let whole = accepted table tests in
-    let fits : recordBytes * codeLength (recipe table) ≤ length buffer = omega (arith, recipe-short whole, whole .few) in
-    rows-passed (tableTests table) _ tests ∙ first-only _ ∙ rw (le-leb (recordBytes * codeLength (recipe table)) (length buffer) fits)
+    let sound = accepted table tests in
+    let fits : recordBytes * codeLength (recipe table) ≤ length buffer = omega (arith, recipe-short sound, sound .few) in
+    rows-passed (tableTests table) _ tests
+    ∙ first-only _
+    ∙ rw (le-leb (recordBytes * codeLength (recipe table)) (length buffer) fits)

@@ -8,10 +8,11 @@
 --   room-enough                    a code buffer of 8,184 bytes is never too small
 --   Relied, relied                 what document 01 says besides of compiled code, and a worker counts on
 --
--- A buffer is the list of its bytes; a table, a code and a schedule are too. The definitions cited are those of `rules`, each written from document 01: the tests in
--- their order (`compileTests`, `runTests`, `firstRefusal`), the recipe that a table holds (`recipe`), its code (`compile`) and
--- the code's bytes (`bytesOf`), the run of a code under a placing (`runs`), which instructions schedule bytes ask a recall for
--- (`asks`), and 001's rules of evaluation, sums wrapped (`Gives e i v`: "e in i gives v").
+-- A buffer is the list of its bytes; a table, a code and a schedule are too. The definitions cited are those of `rules`, each
+-- written from document 01: the tests in their order (`compileTests`, `runTests`, `firstRefusal`), the recipe that a table holds
+-- (`recipe`), its code (`compile`) and the code's bytes (`bytesOf`), the run of a code under a placing (`runs`), which
+-- instructions schedule bytes ask a recall for (`asks`), and 001's rules of evaluation, sums wrapped (`Gives e i v`: "e in i
+-- gives v"); and the sizes by name (`recordBytes` 8, `codeLimit` 8,184, `stackBytes` 4,096).
 --
 -- Assumes nothing.
 use Prim.Native.Nat.{ℕ, _*_, _-_, _≤_, _<_}
@@ -29,6 +30,7 @@ use Rattle.rules.specs.Compiling.{compileTests, compileAnswer, compileLeaves}
 use Rattle.rules.specs.Demand.{AsksNothingFrom}
 use Rattle.rules.specs.Evaluating.{evaluateAnswer}
 use Rattle.rules.specs.Evaluation.{Gives}
+use Rattle.rules.specs.Limits.{recordBytes, codeLimit, stackBytes}
 use Rattle.rules.specs.Recipe.{recipe}
 use Rattle.rules.specs.Refusals.{refusalNumber, firstRefusal}
 use Rattle.rules.specs.Run.{runs}
@@ -47,7 +49,8 @@ use Rattle.salnegris.proofs.salnegris_run.Statement as run-promise
 -- what only the proofs cite
 use native.Mathlib.Omega.{arith}
 use mathlib.Core.Path.{refl, sym, ap, _∙_, fun-ext}
-use Rattle.rules.specs.Answers.{outcomeKind, outcomeNumber, compiledRefusal}
+use Rattle.rules.specs.Answers.{outcomeKind, outcomeNumber, outcomeRefusal, outcomePlace}
+use Rattle.rules.specs.Answers.{compiledLength, compiledRefusal, compiledPlace}
 use Rattle.rules.specs.Compiling.{codeOf}
 use Rattle.rules.specs.Demand.{ofExpression, mostSteps, mostReached, Ends}
 use Rattle.rules.specs.declared.Answer.{Answer}
@@ -55,10 +58,10 @@ use Rattle.rules.specs.declared.Outcome.the-variants.{Ended}
 use Rattle.rules.proofs.Bytes.Answered.{compile-passed, compile-refused, evaluate-passed, run-passed, run-refused}
 use Rattle.rules.proofs.Bytes.ScheduleBytes.{scheduleOf, scheduleOf-bytes, asks-scheduleOf, asks-nothing}
 use Rattle.table.proofs.Acceptance.{recipe-short}
-use Rattle.salnegris.proofs.Accepted.{Passes, passes, table-passes, table-accepted, few-nodes, code-length, code-left, later-left, enough}
+use Rattle.salnegris.proofs.Accepted.{Passes, passes, table-passes, table-accepted, few-nodes, enough}
+use Rattle.salnegris.proofs.Accepted.{code-length, code-left, later-left}
+use Rattle.salnegris.proofs.CompiledRun.{recipe-demand, compiled-run, code-never-refused}
 use Rattle.salnegris.proofs.Inside.{compile-inside, run-inside}
-use Rattle.salnegris.proofs.Joined.{theory, joined, never}
-use Rattle.salnegris.proofs.Numbered.{of-refusal, of-refused}
 use Rattle.salnegris.proofs.salnegris_compile.Met as compile-proof
 use Rattle.salnegris.proofs.salnegris_run.Met as run-proof
 
@@ -70,7 +73,7 @@ compiled table buffer = compiledFields (compileAnswer table buffer)
 
 -- the code that then stands at the front of the buffer, eight bytes an instruction
 abbrev pub codeIn : List ℕ → List ℕ → List ℕ
-codeIn table buffer = take (8 * compiled table buffer .length) (compileLeaves table buffer)
+codeIn table buffer = take (recordBytes * compiled table buffer .length) (compileLeaves table buffer)
 
 -- what `salnegris_run(status, code, schedule, stack)` answers
 abbrev pub ran : ℕ → List ℕ → List ℕ → List ℕ → AnswerFields
@@ -88,8 +91,8 @@ Bytes schedule = (k : ℕ) → byteAt schedule k < 256
 
 -- "Compiler and runner answer for every input, end every time, and stay inside their buffers. .. No caller has to check first."
 -- What the kit calls a function's statement is that from any arguments it ends, touches nothing but what it is lent, and leaves
--- what its `ensures` say. Neither of these has a `requires`. Their `ensures` (`src/lib.rt`) are equations: the answer is `compiled`
--- or `ran` as above, and the buffer afterwards `compileLeaves` or `runLeaves`; so no second answer meets them.
+-- what its `ensures` say. Neither of these has a `requires`. Their `ensures` (`src/lib.rt`) are equations: the answer is
+-- `compiled` or `ran` as above, and the buffer afterwards `compileLeaves` or `runLeaves`; so no second answer meets them.
 pub compile-answers : {M : Type 1} → compile-promise.statement M
 compile-answers = compile-proof.met
 
@@ -103,11 +106,12 @@ pub record Demand1 : Type 0 where
       → (compiled table buffer ≡ record { length = 0; refusal = refusalNumber (r .reason); place = r .place })
       × (compileLeaves table buffer ≡ buffer)
   pub run-refuses : (status : ℕ) (code schedule stack : List ℕ) {r : Refusal} → firstRefusal (runTests status code stack) ≡ some r
-      → (ran status code schedule stack ≡ record { kind = 2; number = pos 0; refusal = refusalNumber (r .reason); place = r .place; steps = 0; reached = 0 })
+      → (ran status code schedule stack
+      ≡ record { kind = 2; number = pos 0; refusal = refusalNumber (r .reason); place = r .place; steps = 0; reached = 0 })
       × (runLeaves status code stack ≡ stack)
   -- Document 01: "Otherwise the first 4,096 bytes of the stack buffer are zero afterwards and the rest is untouched."
   pub run-clears : (status : ℕ) (code stack : List ℕ) → firstRefusal (runTests status code stack) ≡ none
-      → runLeaves status code stack ≡ replicate 4096 0 ++ drop 4096 stack
+      → runLeaves status code stack ≡ replicate stackBytes 0 ++ drop stackBytes stack
   -- "and stay inside their buffers": a buffer is as long as before.
   pub compile-inside : (table buffer : List ℕ) → length (compileLeaves table buffer) ≡ length buffer
   pub run-inside : (status : ℕ) (code stack : List ℕ) → length (runLeaves status code stack) ≡ length stack
@@ -117,11 +121,13 @@ pub record Demand1 : Type 0 where
 -- "Acceptance, the code made, and every step, count and end of a run are those of document 01's rules."
 pub record Demand2 : Type 0 where
   -- A table is accepted exactly when no test refuses it.
-  pub acceptance : (table buffer : List ℕ) → (compiled table buffer .refusal ≡ 0) ↔ (firstRefusal (compileTests table buffer) ≡ none)
+  pub acceptance : (table buffer : List ℕ)
+      → (compiled table buffer .refusal ≡ 0) ↔ (firstRefusal (compileTests table buffer) ≡ none)
   -- The code made is that of the recipe that the table holds; later bytes stay as they were.
   pub code : (table buffer : List ℕ) → compiled table buffer .refusal ≡ 0
       → (codeIn table buffer ≡ bytesOf (compile 0 (recipe table)))
-      × (drop (8 * compiled table buffer .length) (compileLeaves table buffer) ≡ drop (8 * compiled table buffer .length) buffer)
+      × (drop (recordBytes * compiled table buffer .length) (compileLeaves table buffer)
+      ≡ drop (recordBytes * compiled table buffer .length) buffer)
   -- The end and both counts of a run are those of the rules' steps, one by one, from a fresh state.
   pub run : (status : ℕ) (code schedule stack : List ℕ) → firstRefusal (runTests status code stack) ≡ none
       → ran status code schedule stack ≡ answerFields (runs (instructions code) (asks schedule) (statusNumbered status))
@@ -139,8 +145,8 @@ module _ (table buffer : List ℕ) (i : Status) (stack : List ℕ) where
   under schedule = ran (statusNumber i) (codeIn table buffer) schedule stack
 
   pub record Demand3 : Type 0 where
-    -- "a number, or a throw, is the end of its compiled code under some placing of recalls exactly when the evaluation rules, sums
-    -- wrapped, permit that end"
+    -- "a number, or a throw, is the end of its compiled code under some placing of recalls exactly when the evaluation rules,
+    -- sums wrapped, permit that end"
     pub exactly : (v : End) → ((schedule : List ℕ) × Bytes schedule × EndsIn v (under schedule)) ↔ Gives (recipe table) i v
     -- "Every placing, however long, ends in a number or a throw within 3n - 1 steps"
     pub ends : (schedule : List ℕ) → (v : End) × EndsIn v (under schedule) × (under schedule .steps ≤ 3 * n - 1)
@@ -151,7 +157,8 @@ module _ (table buffer : List ℕ) (i : Status) (stack : List ℕ) where
 -- ---- what document 01 says besides
 
 -- Refusal 6 is only for a buffer of less than 8,184 bytes.
-pub room-enough : (table buffer : List ℕ) → firstRefusal (tableTests table) ≡ none → 8184 ≤ length buffer → compiled table buffer .refusal ≡ 0
+pub room-enough : (table buffer : List ℕ) → firstRefusal (tableTests table) ≡ none → codeLimit ≤ length buffer
+    → compiled table buffer .refusal ≡ 0
 unfolding compiledFields compiledRefusal
 room-enough table buffer tests room = rw (compile-passed table buffer (enough table buffer tests room) .0)
 
@@ -160,21 +167,20 @@ pub record Relied (table buffer : List ℕ) : Type 0 where
   -- "The code length is .. at most 2n - 1"
   pub short : compiled table buffer .length ≤ 2 * records table - 1
   -- "Compiled code never meets 9 to 15", whatever the status, the schedule and the stack buffer.
-  pub never : (status : ℕ) (schedule stack : List ℕ) → ran status (codeIn table buffer) schedule stack .refusal ≤ 8
+  pub code-never-refused : (status : ℕ) (schedule stack : List ℕ) → ran status (codeIn table buffer) schedule stack .refusal ≤ 8
   -- Evaluating the table gives what its run ends in when no recall comes, in both statuses.
-  pub quietly : (i : Status) (stack : List ℕ) → 4096 ≤ length stack
+  pub quietly : (i : Status) (stack : List ℕ) → stackBytes ≤ length stack
       → runAnswer (statusNumber i) (codeIn table buffer) [] stack .outcome ≡ evaluateAnswer table
 
 -- ---- proofs
 
 pub demand-1 : Demand1
+unfolding compiledFields compiledLength compiledRefusal compiledPlace
+    answerFields outcomeKind outcomeNumber outcomeRefusal outcomePlace
 demand-1 = record {
-  compile-refuses = λ table buffer e.
-      let (answer, leaves) = compile-refused table buffer e in
-      (sym (of-refusal answer refl), leaves);
+  compile-refuses = λ table buffer e. let (answer, leaves) = compile-refused table buffer e in (rw answer, leaves);
   run-refuses = λ status code schedule stack e.
-      let (answer, leaves) = run-refused status code schedule stack e in
-      (rw answer (sym (of-refused refl refl)), leaves);
+      let (answer, leaves) = run-refused status code schedule stack e in (rw answer, leaves);
   run-clears = λ status code stack e. run-passed status code [] stack e .1;
   compile-inside = compile-inside;
   run-inside = run-inside;
@@ -193,7 +199,8 @@ module _ (table buffer : List ℕ) where
 pub demand-2 : Demand2
 unfolding codeOf compiledFields compiledRefusal
 demand-2 = record {
-  acceptance = λ table buffer. ((λ accepted. all-passed table buffer accepted .tests), λ e. rw (compile-passed table buffer e .0));
+  acceptance = λ table buffer.
+      ((λ accepted. all-passed table buffer accepted .tests), λ e. rw (compile-passed table buffer e .0));
   code = λ table buffer accepted. let all = all-passed table buffer accepted in (code-made table buffer all, later-left all);
   run = λ status code schedule stack e. ap answerFields (run-passed status code schedule stack e .0);
 }
@@ -212,23 +219,25 @@ ends-once (Number k) Throw a e (kind, number) = absurd (omega (arith, rw e at ki
 ends-once Throw (Number m) a e kind = absurd (omega (arith, rw e at kind))
 ends-once Throw Throw a e kind = refl
 
-module _ (table buffer : List ℕ) (accepted : compiled table buffer .refusal ≡ 0) (i : Status) (stack : List ℕ) (room : 4096 ≤ length stack) where
+module _ (table buffer : List ℕ) (accepted : compiled table buffer .refusal ≡ 0)
+    (i : Status) (stack : List ℕ) (room : stackBytes ≤ length stack) where
   all : Passes table buffer
   all = all-passed table buffer accepted
 
   -- the run of the bytes is the run that the theory speaks of
   answered : (schedule : List ℕ)
       → runAnswer (statusNumber i) (codeIn table buffer) schedule stack ≡ ofExpression (recipe table) (asks schedule) i
-  answered schedule = rw (code-made table buffer all) (joined all i stack room schedule)
+  answered schedule = rw (code-made table buffer all) (compiled-run all i stack room schedule)
 
   ends : (schedule : List ℕ) → Ends (recipe table) i (runAnswer (statusNumber i) (codeIn table buffer) schedule stack)
-  ends schedule = rw (answered schedule) (theory all i .ends (asks schedule))
+  ends schedule = rw (answered schedule) (recipe-demand all i .ends (asks schedule))
 
   meets : (v : End) → Gives (recipe table) i v
-      → (schedule : List ℕ) × Bytes schedule × AsksNothingFrom (2 * records table - 1) (asks schedule) × EndsIn v (under table buffer i stack schedule)
+      → (schedule : List ℕ) × Bytes schedule × AsksNothingFrom (2 * records table - 1) (asks schedule)
+      × EndsIn v (under table buffer i stack schedule)
   unfolding mostReached
   meets v d =
-      let (placing, silent, outcome) = theory all i .meets v d in
+      let (placing, silent, outcome) = recipe-demand all i .meets v d in
       let last : ℕ = mostReached (recipe table) in
       let schedule : List ℕ = scheduleOf placing last in
       let same : asks schedule ≡ placing = fun-ext (asks-scheduleOf placing last silent) in (
@@ -248,7 +257,9 @@ module _ (table buffer : List ℕ) (accepted : compiled table buffer .refusal �
           rw (ends-once v (run .end) _ (run .ended) ends-so) at (run .permitted)),
       (λ d. let (schedule, bytes, silent, ends-so) = meets v d in (schedule, bytes, ends-so)),
     );
-    ends = λ schedule. let run = ends schedule in (run .end, ended (run .end) _ (run .ended), omega (arith, run .withinSteps, few-nodes all .0));
+    ends = λ schedule.
+        let run = ends schedule in
+        (run .end, ended (run .end) _ (run .ended), omega (arith, run .withinSteps, few-nodes all .0));
     meets = meets;
   }
 
@@ -260,8 +271,9 @@ module _ (table buffer : List ℕ) (accepted : compiled table buffer .refusal �
   unfolding compiledFields answerFields
   relied = record {
     short = omega (arith, code-length tests-passed, recipe-short (table-accepted tests-passed));
-    never = λ status schedule stack. rw (code-made table buffer tests-passed) (never tests-passed status schedule stack);
+    code-never-refused = λ status schedule stack.
+        rw (code-made table buffer tests-passed) (code-never-refused tests-passed status schedule stack);
     quietly = λ i stack room.
         rw (answered table buffer accepted i stack room [], asks-nothing)
-        (theory tests-passed i .quietly ∙ sym (evaluate-passed table (table-passes tests-passed)));
+        (recipe-demand tests-passed i .quietly ∙ sym (evaluate-passed table (table-passes tests-passed)));
   }

@@ -20,17 +20,21 @@ use Rattle.salnegris.specs.Fields.{CompiledFits, AnswerFits}
 use Rattle.salnegris.proofs.Accepted.{Passes, code-length, short-code}
 
 module _ (table buffer : List ℕ) where
-  length-by : (first : Option Refusal) → firstRefusal (compileTests table buffer) ≡ first → compiledLength (compileAnswer table buffer) < 2 ^ 32
+  length-fits-by : (first : Option Refusal) → firstRefusal (compileTests table buffer) ≡ first
+      → compiledLength (compileAnswer table buffer) < 2 ^ 32
   unfolding compiledLength
-  length-by none e =
+  length-fits-by none e =
       let all : Passes table buffer = record { tests = e } in
       omega (arith, code-length all, short-code all)
-  length-by (some r) e = rw (compile-refused table buffer e .0) (omega arith)
+  length-fits-by (some r) e = rw (compile-refused table buffer e .0) (omega arith)
 
   pub compile-fits : CompiledFits (compileAnswer table buffer)
-  compile-fits = record { length = length-by (firstRefusal (compileTests table buffer)) refl; place = omega (arith, compile-place table buffer) }
+  compile-fits = record {
+    length = length-fits-by (firstRefusal (compileTests table buffer)) refl;
+    place = omega (arith, compile-place table buffer);
+  }
 
 pub run-fits : (status : ℕ) (code schedule stack : List ℕ) → AnswerFits (runAnswer status code schedule stack)
 run-fits status code schedule stack =
     let small = run-small status code schedule stack in
-    record { place = omega (arith, small .place); steps = omega (arith, small .steps); reached = omega (arith, small .steps, small .reached) }
+    record { place = omega arith; steps = omega arith; reached = omega arith }

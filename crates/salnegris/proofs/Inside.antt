@@ -24,24 +24,27 @@ use Rattle.rules.proofs.Refusals.{unless-passed, first-none}
 use Rattle.salnegris.proofs.Accepted.{Passes, buffer-room}
 
 module _ (table buffer : List ℕ) where
-  compile-by : (first : Option Refusal) → firstRefusal (compileTests table buffer) ≡ first → length (compileLeaves table buffer) ≡ length buffer
+  compile-inside-by : (first : Option Refusal) → firstRefusal (compileTests table buffer) ≡ first
+      → length (compileLeaves table buffer) ≡ length buffer
   unfolding codeOf
-  compile-by none e =
+  compile-inside-by none e =
       let all : Passes table buffer = record { tests = e } in
-      rw (compile-passed table buffer e .1) (simp (length-append, length-drop, length-bytesOf-compile 0 (recipe table)) (omega (arith, buffer-room all)))
-  compile-by (some r) e = rw (compile-refused table buffer e .1)
+      rw (compile-passed table buffer e .1)
+      (simp (length-append, length-drop, length-bytesOf-compile 0 (recipe table)) (omega (arith, buffer-room all)))
+  compile-inside-by (some r) e = rw (compile-refused table buffer e .1)
 
   pub compile-inside : length (compileLeaves table buffer) ≡ length buffer
-  compile-inside = compile-by (firstRefusal (compileTests table buffer)) refl
+  compile-inside = compile-inside-by (firstRefusal (compileTests table buffer)) refl
 
 module _ (status : ℕ) (code stack : List ℕ) where
   stack-room : firstRefusal (runTests status code stack) ≡ none → stackBytes ≤ length stack
   unfolding runTests
   stack-room e = leb-true _ _ (unless-passed _ StackBuffer 0 (first-none _ _ (first-none _ _ e .1) .0))
 
-  run-by : (first : Option Refusal) → firstRefusal (runTests status code stack) ≡ first → length (runLeaves status code stack) ≡ length stack
-  run-by none e = rw (run-passed status code [] stack e .1) (simp length-drop (omega (arith, stack-room e)))
-  run-by (some r) e = rw (run-refused status code [] stack e .1)
+  run-inside-by : (first : Option Refusal) → firstRefusal (runTests status code stack) ≡ first
+      → length (runLeaves status code stack) ≡ length stack
+  run-inside-by none e = rw (run-passed status code [] stack e .1) (simp length-drop (omega (arith, stack-room e)))
+  run-inside-by (some r) e = rw (run-refused status code [] stack e .1)
 
   pub run-inside : length (runLeaves status code stack) ≡ length stack
-  run-inside = run-by (firstRefusal (runTests status code stack)) refl
+  run-inside = run-inside-by (firstRefusal (runTests status code stack)) refl

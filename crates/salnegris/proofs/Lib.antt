@@ -1,6 +1,5 @@
 pub mod Accepted
+pub mod CompiledRun
 pub mod Demands
 pub mod Fits
 pub mod Inside
-pub mod Joined
-pub mod Numbered

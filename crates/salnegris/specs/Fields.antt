@@ -6,7 +6,8 @@
 --
 -- Assumes nothing.
 use Prim.Native.Nat.{_^_, _<_}
-use Rattle.rules.specs.Answers.{outcomeKind, outcomeNumber, outcomeRefusal, outcomePlace, compiledLength, compiledRefusal, compiledPlace}
+use Rattle.rules.specs.Answers.{outcomeKind, outcomeNumber, outcomeRefusal, outcomePlace}
+use Rattle.rules.specs.Answers.{compiledLength, compiledRefusal, compiledPlace}
 use Rattle.rules.specs.declared.Compiled.{Compiled}
 use Rattle.rules.specs.declared.Answer.{Answer}
 use Rattle.salnegris.specs.declared.CompiledFields.{CompiledFields}

@@ -15,8 +15,8 @@ pub struct CompiledFields {
     pub place: u32,
 }
 
-// What running answers, as numbers: "the kind of end (0 number, 1 throw, 2 refused), the number, the refusal, the place, the steps
-// taken, and the instructions reached. Fields that don't apply are 0."
+// What running answers, as numbers: "the kind of end (0 number, 1 throw, 2 refused), the number, the refusal, the place, the
+// steps taken, and the instructions reached. Fields that don't apply are 0."
 #[repr(C)]
 pub struct AnswerFields {
     pub kind: u32,
@@ -42,7 +42,8 @@ pub extern "C" fn salnegris_run(
     schedule: &[u8],
     stack: &mut [u8],
 ) -> AnswerFields
-    ensures answer { λ r. ⌜ r ≡ answerFields (runAnswer status (now (code .entry)) (now (schedule .entry)) (now (stack .entry))) ⌝ }
+    ensures answer { λ r. ⌜ r ≡ answerFields
+        (runAnswer status (now (code .entry)) (now (schedule .entry)) (now (stack .entry))) ⌝ }
     ensures leaves { λ _. ⌜ now (stack .exit) ≡ runLeaves status (now (code .entry)) (now (stack .entry)) ⌝ }
 {
     fields::of_answer(machine::run(status, code, schedule, stack))

@@ -10,58 +10,21 @@ use Rattle.compiler.proofs.Compiling.{last-measurable, last-emittable, 
 use Rattle.compiler.proofs.compile.Statement.{statement}
 use Rattle.compiler.proofs.compile.Tie as tie
 
-checked : (c : tie.After-nodes) → checkAnswer tableTests (c .before .before .before .before .before .args .table .now) ≡ Accepted (c .nodes .given .0 .0)
+checked : (c : tie.After-nodes)
+    → checkAnswer tableTests (c .before .before .before .before .before .args .table .now) ≡ Accepted (c .nodes .given .0 .0)
 checked c = sym (c .before .before .check .ensures) ∙ c .nodes .given .1
-
-check-requires : tie.Need-check-requires
-check-requires c κs = search needs
-
-enum-known-nodes : tie.Need-enum-known-nodes
-enum-known-nodes c = search needs
-
-sub-measure : tie.Need-sub-measure
-sub-measure c = last-node _ (checked (c .before)) .0
-
-measure-requires : tie.Need-measure-requires
-measure-requires c κs = last-measurable _ (checked (c .before))
-
-mul-if1 : tie.Need-mul-if1
-mul-if1 c = omega (arith, last-measurable _ (checked (c .before .before)) .short, c .measure .ensures)
-
-returns : tie.Need-returns
-returns c = buffer-refused _ (checked (c .before .before .before)) _ (c .before .measure .ensures) (c .if1 .taken)
-
-sub-emit : tie.Need-sub-emit
-sub-emit c = last-node _ (checked (c .before .before .before)) .0
-
-emit-requires : tie.Need-emit-requires
-emit-requires c κs = last-emittable _ (checked (c .before .before .before .before)) _ (c .before .before .measure .ensures) (c .before .if1 .left)
-
-enum-known-r : tie.Need-enum-known-r
-enum-known-r c = search needs
-
-same-length : tie.Need-same-length
-same-length c = search needs
-
-returns-2 : tie.Need-returns-2
-returns-2 c = compiled _ (checked (c .before .before .before .before .before .before .before)) _ (c .before .before .before .before .before .measure .ensures) (c .before .before .before .before .if1 .left) (c .before .before .emit .ensures)
-
-returns-3 : tie.Need-returns-3
-returns-3 c = table-refused _ _ (sym (c .before .before .before .check .ensures) ∙ c .before .r .given .1)
 
 pub compile-spec : {M : Type 1} → statement M
 compile-spec =
-    tie.close
-    (tie.spec
-    check-requires
-    enum-known-nodes
-    sub-measure
-    measure-requires
-    mul-if1
-    returns
-    sub-emit
-    emit-requires
-    enum-known-r
-    same-length
-    returns-2
-    returns-3)
+    tie.close (tie.spec
+    (search needs) (search needs)
+    (λ c. last-node _ (checked (c .before)) .0) (λ c κs. last-measurable _ (checked (c .before)))
+    (λ c. omega (arith, last-measurable _ (checked (c .before .before)) .short, c .measure .ensures))
+    (λ c. buffer-refused _ (checked (c .before .before .before)) _ (c .before .measure .ensures) (c .if1 .taken))
+    (λ c. last-node _ (checked (c .before .before .before)) .0)
+    (λ c κs. let fits = c .before in let size = fits .before in
+    last-emittable _ (checked (size .before .before)) _ (size .measure .ensures) (fits .if1 .left))
+    (search needs) (search needs)
+    (λ c. let fits = c .before .before .before .before in let size = fits .before in
+    compiled _ (checked (size .before .before)) _ (size .measure .ensures) (fits .if1 .left) (c .before .before .emit .ensures))
+    (λ c. table-refused _ _ (sym (c .before .before .before .check .ensures) ∙ c .before .r .given .1)))

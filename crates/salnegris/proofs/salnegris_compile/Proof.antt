@@ -1,24 +1,13 @@
 -- `salnegris::salnegris_compile` meets its contract: `compiler::compile`, its answer in numbers. Assumes nothing.
 use borrow.Author.Needs.{needs}
-use mathlib.Core.Path.{_∙_, ap}
-use Rattle.salnegris.specs.Fields.{compiledFields}
 use Rattle.salnegris.proofs.Fits.{compile-fits}
 use Rattle.salnegris.proofs.salnegris_compile.Statement.{statement}
 use Rattle.salnegris.proofs.salnegris_compile.Tie as tie
 
-compile-requires : tie.Need-compile-requires
-compile-requires c κs = search needs
-
-of-compiled-requires : tie.Need-of-compiled-requires
-of-compiled-requires c κs = rw (c .before .before .compile .ensures .0) (compile-fits _ _)
-
-same-length : tie.Need-same-length
-same-length c = search needs
-
-returns : tie.Need-returns
-returns c =
-    let compiled = c .before .before .before .compile .ensures in
-    (c .of-compiled .ensures ∙ ap compiledFields (compiled .0), compiled .1)
-
 pub salnegris-compile-spec : {M : Type 1} → statement M
-salnegris-compile-spec = tie.close (tie.spec compile-requires of-compiled-requires same-length returns)
+salnegris-compile-spec =
+    tie.close (tie.spec
+    (search needs)
+    (λ c κs. rw (c .before .before .compile .ensures .0) (compile-fits _ _))
+    (search needs)
+    (λ c. let made = c .before .before .before .compile .ensures in (cc (c .of-compiled .ensures, made .0), made .1)))

@@ -4,19 +4,10 @@ use Rattle.salnegris.proofs.Fits.{run-fits}
 use Rattle.salnegris.proofs.salnegris_run.Statement.{statement}
 use Rattle.salnegris.proofs.salnegris_run.Tie as tie
 
-run-requires : tie.Need-run-requires
-run-requires c κs = search needs
-
-of-answer-requires : tie.Need-of-answer-requires
-of-answer-requires c κs = rw (c .before .before .run .ensures .0) (run-fits _ _ _ _)
-
-same-length : tie.Need-same-length
-same-length c = search needs
-
-returns : tie.Need-returns
-returns c =
-    let run = c .before .before .before .run .ensures in
-    (cc (c .of-answer .ensures, run .0), run .1)
-
 pub salnegris-run-spec : {M : Type 1} → statement M
-salnegris-run-spec = tie.close (tie.spec run-requires of-answer-requires same-length returns)
+salnegris-run-spec =
+    tie.close (tie.spec
+    (search needs)
+    (λ c κs. rw (c .before .before .run .ensures .0) (run-fits _ _ _ _))
+    (search needs)
+    (λ c. let run = c .before .before .before .run .ensures in (cc (c .of-answer .ensures, run .0), run .1)))

@@ -11,37 +11,7 @@ Inv-loop bytes i₀ i = Unit
 abbrev μ-loop : tie.MeasureT-loop
 μ-loop bytes i₀ i = length bytes - i
 
-loop-holds : tie.Need-loop-holds Inv-loop μ-loop
-loop-holds c = search needs
-
-shared-slice-read-code-byte : tie.Need-shared-slice-read-code-byte Inv-loop μ-loop
-shared-slice-read-code-byte c = search needs
-
-code-byte-requires : tie.Need-code-byte-requires Inv-loop μ-loop
-code-byte-requires c κs = search needs
-
-add-i : tie.Need-add-i Inv-loop μ-loop
-add-i c = search needs
-
-loop-less : tie.Need-loop-less Inv-loop μ-loop
-loop-less c = search needs
-
-loop-again : tie.Need-loop-again Inv-loop μ-loop
-loop-again c = search needs
-
-returns : tie.Need-returns Inv-loop μ-loop
-returns c = search needs
-
 pub code-spec : {M : Type 1} → statement M
 code-spec =
-    tie.close
-    (tie.spec
-    Inv-loop
-    μ-loop
-    loop-holds
-    shared-slice-read-code-byte
-    code-byte-requires
-    add-i
-    loop-less
-    loop-again
-    returns)
+    tie.close (tie.spec Inv-loop μ-loop
+    (search needs) (search needs) (search needs) (search needs) (search needs) (search needs) (search needs))

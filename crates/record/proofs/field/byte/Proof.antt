@@ -1,18 +1,13 @@
--- `record::field::byte` meets its contract. Assumes nothing.
+-- `record::field::byte` meets its contract: what a slice of bytes holds is below 256. Assumes nothing.
 use native.Mathlib.Omega.{arith}
 use borrow.Author.Needs.{needs}
 use mathlib.Core.Path.{refl}
 use Rattle.record.proofs.field.byte.Statement.{statement}
 use Rattle.record.proofs.field.byte.Tie as tie
 
-shared-slice-read-result : tie.Need-shared-slice-read-result
-shared-slice-read-result c = search needs
-
-cast-result : tie.Need-cast-result
-cast-result c = omega (arith, c .shared-slice-known .given (c .before .args .at))
-
-returns : tie.Need-returns
-returns c = (refl, omega (arith, c .shared-slice-known .given (c .before .args .at)))
-
 pub byte-spec : {M : Type 1} → statement M
-byte-spec = tie.close (tie.spec shared-slice-read-result cast-result returns)
+byte-spec =
+    tie.close (tie.spec
+    (search needs)
+    (λ c. omega (arith, c .shared-slice-known .given (c .before .args .at)))
+    (λ c. (refl, omega (arith, c .shared-slice-known .given (c .before .args .at)))))

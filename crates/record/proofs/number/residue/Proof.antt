@@ -1,61 +1,37 @@
 -- `record::number::residue` meets its contract, in each half of the range. Assumes nothing.
-use Prim.Native.Nat.{suc, _-_, _^_, _<_}
 use native.Mathlib.Omega.{arith}
 use lib.IntN.{pos, negsuc, _-ℤ_}
 use lib.Signed.{mag}
-use mathlib.Core.Path.{_≡_, ap, sym, _∙_}
+use mathlib.Core.Path.{_≡_, _∙_}
 use mir.Syntax.{w32}
 use mir.Val.{toZ, ofZ}
 use mir.Facts.{toZ-ofZ, toZ-pos}
-use Rattle.record.proofs.Signed.{residue-ofZ, below-zero, not-below-zero, minus-one-less-negsuc}
+use Rattle.record.proofs.Signed.{Negative, Positive, negative, positive}
 use Rattle.record.proofs.number.residue.Statement.{statement}
 use Rattle.record.proofs.number.residue.Tie as tie
 
--- ---- the bits of n, read again
+-- ---- below zero
 
-negative : (c : tie.Then1) → c .before .args .n ≡ negsuc (mag (c .before .args .n))
-negative c = below-zero _ (rw (toZ-ofZ (c .before .fits .n)) at (c .if1 .taken))
-
-positive : (c : tie.Else1) → c .before .args .n ≡ pos (mag (c .before .args .n))
-positive c = not-below-zero _ (rw (toZ-ofZ (c .before .fits .n)) at (c .if1 .left))
-
-read-negative : (c : tie.Then1) → toZ w32 (ofZ w32 (c .before .args .n)) ≡ negsuc (mag (c .before .args .n))
-read-negative c = toZ-ofZ (c .before .fits .n) ∙ negative c
-
-read-positive : (c : tie.Else1) → toZ w32 (ofZ w32 (c .before .args .n)) ≡ pos (mag (c .before .args .n))
-read-positive c = toZ-ofZ (c .before .fits .n) ∙ positive c
+below : (c : tie.Then1) → Negative (c .before .args .n)
+below c = negative _ (c .before .fits .n) (rw (toZ-ofZ (c .before .fits .n)) at (c .if1 .taken))
 
 rest : (c : tie.Then1) → toZ w32 (ofZ w32 (negsuc 0 -ℤ toZ w32 (ofZ w32 (c .before .args .n)))) ≡ pos (mag (c .before .args .n))
-rest c = rw (read-negative c, minus-one-less-negsuc, toZ-pos w32 (c .before .fits .n .sfits))
+rest c = rw (toZ-ofZ (c .before .fits .n), below c .rest, toZ-pos w32 (below c .small))
 
-sub-result : tie.Need-sub-result
-sub-result c = rw (read-negative c, minus-one-less-negsuc) (record { sfits = c .before .fits .n .sfits })
+-- ---- from zero on
 
-cast-result : tie.Need-cast-result
-cast-result c =
-    let small : mag (c .before .args .n) < 2 ^ 31 = c .before .fits .n .sfits in
-    rw (rest c) (tt, record { fits = omega arith })
+above : (c : tie.Else1) → Positive (c .before .args .n)
+above c = positive _ (c .before .fits .n) (rw (toZ-ofZ (c .before .fits .n)) at (c .if1 .left))
 
-sub-result-2 : tie.Need-sub-result-2
-sub-result-2 c =
-    let small : mag (c .before .args .n) < 2 ^ 31 = c .before .fits .n .sfits in
-    rw (rest c) (omega arith)
-
-cast-result-2 : tie.Need-cast-result-2
-cast-result-2 c =
-    let small : mag (c .before .args .n) < 2 ^ 31 = c .before .fits .n .sfits in
-    rw (read-positive c) (tt, record { fits = omega arith })
-
-returns : tie.Need-returns
-returns c =
-    let n = c .before .args .n in
-    let small : mag n < 2 ^ 31 = c .before .fits .n .sfits in
-    let bits : 4294967295 - mag n ≡ 2 ^ 32 - suc (mag n) = omega arith in
-    rw (rest c) (bits ∙ sym (ap (ofZ w32) (negative c)) ∙ residue-ofZ (c .before .fits .n))
-
-returns-2 : tie.Need-returns-2
-returns-2 c = rw (read-positive c) (sym (ap (ofZ w32) (positive c)) ∙ residue-ofZ (c .before .fits .n))
+same : (c : tie.Else1) → toZ w32 (ofZ w32 (c .before .args .n)) ≡ pos (mag (c .before .args .n))
+same c = toZ-ofZ (c .before .fits .n) ∙ above c .same
 
 pub residue-spec : {M : Type 1} → statement M
 residue-spec =
-    tie.close (tie.spec sub-result cast-result sub-result-2 cast-result-2 returns returns-2)
+    tie.close (tie.spec
+    (λ c. rw (toZ-ofZ (c .before .fits .n), below c .rest) (record { sfits = below c .small }))
+    (λ c. rw (rest c) (tt, record { fits = omega (arith, below c .small) }))
+    (λ c. rw (rest c) (omega (arith, below c .small)))
+    (λ c. rw (same c) (tt, record { fits = omega (arith, above c .small) }))
+    (λ c. rw (rest c) (below c .bits))
+    (λ c. rw (same c) (above c .bits)))

@@ -3,10 +3,8 @@ use Prim.Native.Nat.{suc, _-_, _^_}
 use native.Mathlib.Omega.{arith}
 use borrow.Author.Needs.{needs}
 use borrow.Author.Tests.{le-ltb}
-use lib.Dec.{ltb}
 use lib.IntN.{negsuc, _-ℤ_}
 use mathlib.Core.Path.{_≡_, ap}
-use mathlib.Core.Bool.{false}
 use mir.Syntax.{w32}
 use mir.Val.{SFits, toZ}
 use mir.Facts.{toZ-ofZ, toZ-pos}
@@ -21,29 +19,14 @@ rest-fits c = record { sfits = omega arith }
 upper : (c : tie.Else1) → negsuc 0 -ℤ toZ w32 (4294967295 - c .before .args .word) ≡ negsuc (4294967295 - c .before .args .word)
 upper c = rw (toZ-pos w32 (rest-fits c .sfits)) (minus-one-less-pos _)
 
-cast-result : tie.Need-cast-result
-cast-result c = search needs
-
-sub-result : tie.Need-sub-result
-sub-result c = search needs
-
-cast-result-2 : tie.Need-cast-result-2
-cast-result-2 c = search needs
-
-sub-result-2 : tie.Need-sub-result-2
-sub-result-2 c = rw (upper c) (rest-fits c)
-
-returns : tie.Need-returns
-returns c = signed-toZ (c .before .args .word)
-
-returns-2 : tie.Need-returns-2
-unfolding signed
-returns-2 c =
-    let word = c .before .args .word in
-    let upper-half : ltb word (2 ^ 31) ≡ false = le-ltb word (2 ^ 31) (omega arith) in
-    let same : 4294967295 - word ≡ 2 ^ 32 - suc word = omega arith in
-    rw (upper c, toZ-ofZ (rest-fits c), upper-half) (ap negsuc same)
+same : (c : tie.Else1) → 4294967295 - c .before .args .word ≡ 2 ^ 32 - suc (c .before .args .word)
+same c = omega arith
 
 pub signed-spec : {M : Type 1} → statement M
+unfolding signed
 signed-spec =
-    tie.close (tie.spec cast-result sub-result cast-result-2 sub-result-2 returns returns-2)
+    tie.close (tie.spec
+    (search needs)
+    (search needs) (search needs) (λ c. rw (upper c) (rest-fits c))
+    (λ c. signed-toZ (c .before .args .word))
+    (λ c. rw (upper c, toZ-ofZ (rest-fits c), le-ltb (c .before .args .word) (2 ^ 31) (omega arith)) (ap negsuc (same c))))

@@ -2,27 +2,13 @@
 use native.Mathlib.Nat.{zero-div}
 use borrow.Author.Needs.{needs}
 use lib.ListN.{List·getD-eq-default}
-use mathlib.Core.Path.{refl}
 use Rattle.rules.specs.Schedule.{asks}
 use Rattle.record.proofs.schedule.asks.Statement.{statement}
 use Rattle.record.proofs.schedule.asks.Tie as tie
 
-shared-slice-read-result : tie.Need-shared-slice-read-result
-shared-slice-read-result c = search needs
-
-cast-result : tie.Need-cast-result
-cast-result c = search needs
-
-shr-result : tie.Need-shr-result
-shr-result c = search needs
-
-returns : tie.Need-returns
-unfolding asks
-returns c = refl
-
-returns-2 : tie.Need-returns-2
-unfolding asks
-returns-2 c = rw (List·getD-eq-default _ _ (c .if1 .left), zero-div)
-
 pub asks-spec : {M : Type 1} → statement M
-asks-spec = tie.close (tie.spec shared-slice-read-result cast-result shr-result returns returns-2)
+unfolding asks
+asks-spec =
+    tie.close (tie.spec
+    (search needs) (search needs) (search needs) (search needs)
+    (λ c. rw (List·getD-eq-default _ _ (c .if1 .left), zero-div)))

@@ -4,22 +4,10 @@ use Rattle.rules.specs.Machine.{cuts}
 use Rattle.record.proofs.schedule.strikes.Statement.{statement}
 use Rattle.record.proofs.schedule.strikes.Tie as tie
 
-enum-told : tie.Need-enum-told
-enum-told c = search needs
-
-enum-told-2 : tie.Need-enum-told-2
-enum-told-2 c = search needs
-
-asks-requires : tie.Need-asks-requires
-asks-requires c κs = search needs
-
-returns : tie.Need-returns
-unfolding cuts
-returns c = rw (c .enum-told .given .1, cuts)
-
-returns-2 : tie.Need-returns-2
-unfolding cuts
-returns-2 c = rw (c .before .enum-told2 .given .1, cuts) (c .asks .ensures)
-
 pub strikes-spec : {M : Type 1} → statement M
-strikes-spec = tie.close (tie.spec enum-told enum-told-2 asks-requires returns returns-2)
+unfolding cuts
+strikes-spec =
+    tie.close (tie.spec
+    (search needs) (search needs) (search needs)
+    (λ c. rw (c .enum-told .given .1, cuts))
+    (λ c. rw (c .before .enum-told2 .given .1, cuts) (c .asks .ensures)))

@@ -7,18 +7,10 @@ use Rattle.rules.specs.Bytes.{wholeRecords}
 use Rattle.record.proofs.size.whole.Statement.{statement}
 use Rattle.record.proofs.size.whole.Tie as tie
 
-returns : tie.Need-returns
-unfolding wholeRecords
-returns c = rw (le-ltb 0 (length (c .before .args .bytes .now)) (omega (arith, c .if1 .taken)))
-
-returns-2 : tie.Need-returns-2
-unfolding wholeRecords
-returns-2 c = rw (lt-leb _ _ (c .if2 .taken), and-false)
-
-returns-3 : tie.Need-returns-3
-unfolding wholeRecords
-returns-3 c =
-    rw (lt-ltb 0 (length (c .before .before .args .bytes .now)) (omega (arith, c .before .if1 .left)), le-leb _ _ (c .if2 .left))
-
 pub whole-spec : {M : Type 1} → statement M
-whole-spec = tie.close (tie.spec returns returns-2 returns-3)
+unfolding wholeRecords
+whole-spec =
+    tie.close (tie.spec
+    (λ c. rw (le-ltb 0 (length (c .before .args .bytes .now)) (omega arith)))
+    (λ c. rw (lt-leb _ _ (c .if2 .taken), and-false))
+    (λ c. rw (lt-ltb 0 (length (c .before .before .args .bytes .now)) (omega arith), le-leb _ _ (c .if2 .left))))

@@ -11,8 +11,5 @@ not-zero : (number : ℕ) → (number ≡ 0 → ⊥) → Unblocked ≡ statusNum
 not-zero zero h = absurd (h refl)
 not-zero (suc n) h = refl
 
-returns-2 : tie.Need-returns-2
-returns-2 c = not-zero (c .before .args .number) (c .if1 .left)
-
 pub of-number-spec : {M : Type 1} → statement M
-of-number-spec = tie.close (tie.spec (λ c. search needs) returns-2)
+of-number-spec = tie.close (tie.spec (λ c. search needs) (λ c. not-zero _ (c .if1 .left)))

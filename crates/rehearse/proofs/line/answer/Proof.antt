@@ -8,53 +8,29 @@ use Rattle.rehearse.proofs.Writing.{written-as}
 use Rattle.rehearse.proofs.line.answer.Statement.{statement}
 use Rattle.rehearse.proofs.line.answer.Tie as tie
 
-number-requires : tie.Need-number-requires
-number-requires c κs = search needs
-
-throw-requires : tie.Need-throw-requires
-throw-requires c κs = search needs
-
-refused-requires : tie.Need-refused-requires
-refused-requires c κs = search needs
-
-same-length : tie.Need-same-length
-same-length c = search needs
-
-returns : tie.Need-returns
-returns c =
+number : tie.Need-returns
+number c =
     let told = c .before .before .before in
     let kind = told .before .before in
     let answer = kind .before .before .args .answer in
     let fits : SFits w32 (answer .number) = record { sfits = told .struct-told .given .1 .0 .1 } in
     written-as (number-kind answer (kind .match .keys1)) (rw (toZ-ofZ fits) at (c .before .before .number .ensures))
 
-same-length-2 : tie.Need-same-length-2
-same-length-2 c = search needs
-
-returns-2 : tie.Need-returns-2
-returns-2 c =
+throw : tie.Need-returns-2
+throw c =
     let kind = c .before .before .before .before in
     written-as (throw-kind (kind .before .before .args .answer) (kind .match .keys2)) (c .before .before .throw .ensures)
 
-same-length-3 : tie.Need-same-length-3
-same-length-3 c = search needs
-
-returns-3 : tie.Need-returns-3
-returns-3 c =
+refused : tie.Need-returns-3
+refused c =
     let kind = c .before .before .before .before in
     let (not-number, not-throw) = kind .match .rest in
     written-as (refused-kind (kind .before .before .args .answer) (not-number .1) not-throw) (c .before .before .refused .ensures)
 
 pub answer-spec : {M : Type 1} → statement M
 answer-spec =
-    tie.close
-    (tie.spec
-    number-requires
-    throw-requires
-    refused-requires
-    same-length
-    returns
-    same-length-2
-    returns-2
-    same-length-3
-    returns-3)
+    tie.close (tie.spec
+    (search needs) (search needs) (search needs)
+    (search needs) number
+    (search needs) throw
+    (search needs) refused)

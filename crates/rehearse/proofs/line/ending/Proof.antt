@@ -4,27 +4,6 @@ use Rattle.rehearse.proofs.Writing.{also-written}
 use Rattle.rehearse.proofs.line.ending.Statement.{statement}
 use Rattle.rehearse.proofs.line.ending.Tie as tie
 
-text-requires : tie.Need-text-requires
-text-requires c κs = search needs
-
-decimal-requires : tie.Need-decimal-requires
-decimal-requires c κs = search needs
-
-text-requires-2 : tie.Need-text-requires-2
-text-requires-2 c κs = search needs
-
-decimal-requires-2 : tie.Need-decimal-requires-2
-decimal-requires-2 c κs = search needs
-
-slice-aggregate-text : tie.Need-slice-aggregate-text
-slice-aggregate-text c = search needs
-
-text-requires-3 : tie.Need-text-requires-3
-text-requires-3 c κs = search needs
-
-same-length : tie.Need-same-length
-same-length c = search needs
-
 returns : tie.Need-returns
 returns c =
     let feed = c .before .before in
@@ -38,13 +17,5 @@ returns c =
 
 pub ending-spec : {M : Type 1} → statement M
 ending-spec =
-    tie.close
-    (tie.spec
-    text-requires
-    decimal-requires
-    text-requires-2
-    decimal-requires-2
-    slice-aggregate-text
-    text-requires-3
-    same-length
-    returns)
+    tie.close (tie.spec
+    (search needs) (search needs) (search needs) (search needs) (search needs) (search needs) (search needs) returns)

@@ -5,21 +5,6 @@ use Rattle.rehearse.proofs.Writing.{also-written}
 use Rattle.rehearse.proofs.line.number.Statement.{statement}
 use Rattle.rehearse.proofs.line.number.Tie as tie
 
-slice-aggregate-text : tie.Need-slice-aggregate-text
-slice-aggregate-text c = search needs
-
-text-requires : tie.Need-text-requires
-text-requires c κs = search needs
-
-integer-requires : tie.Need-integer-requires
-integer-requires c κs = search needs
-
-totals-requires : tie.Need-totals-requires
-totals-requires c κs = search needs
-
-same-length : tie.Need-same-length
-same-length c = search needs
-
 returns : tie.Need-returns
 returns c =
     let ended = c .before .before in
@@ -30,12 +15,4 @@ returns c =
     rw (toZ-ofZ (start .fits .n)) at (also-written named (ended .totals .ensures))
 
 pub number-spec : {M : Type 1} → statement M
-number-spec =
-    tie.close
-    (tie.spec
-    slice-aggregate-text
-    text-requires
-    integer-requires
-    totals-requires
-    same-length
-    returns)
+number-spec = tie.close (tie.spec (search needs) (search needs) (search needs) (search needs) (search needs) returns)

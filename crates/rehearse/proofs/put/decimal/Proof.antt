@@ -10,21 +10,6 @@ use Rattle.rehearse.proofs.put.decimal.Tie as tie
 few : (c : tie.After-decimal) → c .decimal .result ≤ 10
 few c = few-digits _ _ (c .decimal .ensures .1 .0) (omega (arith, c .before .before .before .fits .n))
 
-decimal-requires : tie.Need-decimal-requires
-decimal-requires c κs = search needs
-
-array-share-prefix-digits : tie.Need-array-share-prefix-digits
-array-share-prefix-digits c = search needs
-
-slice-aggregate-text : tie.Need-slice-aggregate-text
-slice-aggregate-text c = search needs
-
-text-requires : tie.Need-text-requires
-text-requires c κs = omega (arith, few (c .before .before))
-
-same-length : tie.Need-same-length
-same-length c = search needs
-
 returns : tie.Need-returns
 returns c =
     let made = c .before .before .before .before .before in
@@ -34,11 +19,7 @@ returns c =
 
 pub decimal-spec : {M : Type 1} → statement M
 decimal-spec =
-    tie.close
-    (tie.spec
-    decimal-requires
-    array-share-prefix-digits
-    slice-aggregate-text
-    text-requires
-    same-length
-    returns)
+    tie.close (tie.spec
+    (search needs) (search needs)
+    (search needs) (λ c κs. omega (arith, few (c .before .before)))
+    (search needs) returns)

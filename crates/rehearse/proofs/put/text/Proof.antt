@@ -16,65 +16,27 @@ Inv-loop bytes line₀ at i₀ line i = (line ≡ paste line₀ at bytes i) × (
 abbrev μ-loop : tie.MeasureT-loop
 μ-loop bytes line₀ at i₀ line i = length bytes - i
 
-loop-holds : tie.Need-loop-holds Inv-loop μ-loop
-loop-holds c = (paste-zero (c .args .line .now) (c .args .at) (c .args .bytes .now), search needs, refl)
-
-shared-slice-read-line : tie.Need-shared-slice-read-line Inv-loop μ-loop
-shared-slice-read-line c = search needs
-
-add-line : tie.Need-add-line Inv-loop μ-loop
-add-line c = search needs
-
-slice-write-line : tie.Need-slice-write-line Inv-loop μ-loop
-slice-write-line c = search needs
-
-add-i : tie.Need-add-i Inv-loop μ-loop
-add-i c = search needs
-
-loop-less : tie.Need-loop-less Inv-loop μ-loop
-loop-less c = search needs
-
 loop-again : tie.Need-loop-again Inv-loop μ-loop
 loop-again c =
     let at = c .before .before .loop in
     let start = c .before .before .before .args in
-    let inside : start .at + at .i < length (start .line .now) = omega (arith, c .before .before .before .pre, c .before .loop-test .taken) in (
+    let inside : start .at + at .i < length (start .line .now) = omega arith in (
       rw (at .inv .0, add-one) (paste-suc _ _ _ _ 0 inside (c .before .loop-test .taken)),
       search needs,
       length-set (at .line) _ _ ∙ at .inv .2,
     )
 
-add-result : tie.Need-add-result Inv-loop μ-loop
-add-result c = search needs
-
-same-length : tie.Need-same-length Inv-loop μ-loop
-same-length c = c .before .loop .inv .2
-
 returns : tie.Need-returns Inv-loop μ-loop
 returns c =
     let at = c .before .loop in
     let start = c .before .before .args in
-    let bytes = start .bytes .now in
-    let all : at .i ≡ length bytes = omega (arith, at .inv .1, c .loop-test .left) in
-    let inside : start .at ≤ length (start .line .now) = omega (arith, c .before .before .pre) in
-    record {
-      bytes = rw (at .inv .0) (take-paste _ _ _ _ inside (at .inv .1) ∙ rw (all, take-length bytes));
-      place = rw all;
-    }
+    let all : at .i ≡ length (start .bytes .now) = omega arith in
+    let inside : start .at ≤ length (start .line .now) = omega arith in
+    record { bytes = rw (at .inv .0) (take-paste _ _ _ _ inside (at .inv .1) ∙ rw (all, take-length)); place = rw all }
 
 pub text-spec : {M : Type 1} → statement M
 text-spec =
-    tie.close
-    (tie.spec
-    Inv-loop
-    μ-loop
-    loop-holds
-    shared-slice-read-line
-    add-line
-    slice-write-line
-    add-i
-    loop-less
-    loop-again
-    add-result
-    same-length
-    returns)
+    tie.close (tie.spec Inv-loop μ-loop
+    (λ c. (paste-zero (c .args .line .now) (c .args .at) (c .args .bytes .now), search needs, refl))
+    (search needs) (search needs) (search needs) (search needs) (search needs) loop-again
+    (search needs) (search needs) returns)

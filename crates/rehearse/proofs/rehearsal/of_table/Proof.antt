@@ -7,6 +7,7 @@ use lib.ListN.{length}
 use lib.Seq.{length-take-le}
 use mathlib.Core.Path.{_≡_, sym}
 use Rattle.rules.specs.Answers.{compiledRefusal}
+use Rattle.rules.specs.Limits.{recordBytes}
 use Rattle.salnegris.specs.Fields.{compiledFields}
 use Rattle.rehearse.proofs.Fields.{fields-line}
 use Rattle.rehearse.proofs.Tables.{compiled, line-refused, rehearse-accepted, code-fits}
@@ -18,28 +19,16 @@ accepted : (c : tie.Else1)
 unfolding compiledFields
 accepted c = rw (c .before .before .before .salnegris-compile .ensures .0) at (c .if1 .left)
 
-within : (c : tie.Else1)
-    → 8 * c .before .before .before .salnegris-compile .result .length ≤ length (c .before .before .before .salnegris-compile .last .1 .0)
+within : (c : tie.Else1) → let made = c .before .before .before .salnegris-compile in
+    recordBytes * made .result .length ≤ length (made .last .1 .0)
 unfolding compiledFields
 within c =
     let made = c .before .before .before .salnegris-compile in
     rw (made .ensures .0) (omega (arith, code-fits _ (accepted c), made .kept .1 .0))
 
-slice-aggregate-salnegris-compile : tie.Need-slice-aggregate-salnegris-compile
-slice-aggregate-salnegris-compile c = search needs
-
-salnegris-compile-requires : tie.Need-salnegris-compile-requires
-salnegris-compile-requires c κs = search needs
-
-refused-requires : tie.Need-refused-requires
-refused-requires c κs = search needs
-
-same-length : tie.Need-same-length
-same-length c = search needs
-
-returns : tie.Need-returns
+refused : tie.Need-returns
 unfolding compiledFields
-returns c =
+refused c =
     let tested = c .before .before .before .before in
     let made = tested .before .before .before in
     let start = made .before .before .before .before .before .args in
@@ -47,57 +36,24 @@ returns c =
     let line = line-refused (start .status) (start .table .now) (start .schedule .now) (rw answer at (tested .if1 .taken)) in
     rw (answer, line) at (c .before .before .refused .ensures)
 
-cast-bytes : tie.Need-cast-bytes
-cast-bytes c = search needs
-
-mul-bytes : tie.Need-mul-bytes
-mul-bytes c = search needs
-
-array-share-prefix-code : tie.Need-array-share-prefix-code
-array-share-prefix-code c = within (c .before)
-
-slice-aggregate-salnegris-run : tie.Need-slice-aggregate-salnegris-run
-slice-aggregate-salnegris-run c = sym (length-take-le _ _ (within (c .before .before)))
-
-slice-aggregate-salnegris-run-2 : tie.Need-slice-aggregate-salnegris-run-2
-slice-aggregate-salnegris-run-2 c = search needs
-
-salnegris-run-requires : tie.Need-salnegris-run-requires
-salnegris-run-requires c κs = search needs
-
-answer-requires : tie.Need-answer-requires
-answer-requires c κs = search needs
-
-same-length-2 : tie.Need-same-length-2
-same-length-2 c = search needs
-
-returns-2 : tie.Need-returns-2
+run : tie.Need-returns-2
 unfolding compiledFields
-returns-2 c =
-    let run = c .before .before .before .before .before in
-    let tested = run .before .before .before .before in
+run c =
+    let ran = c .before .before .before .before .before in
+    let tested = ran .before .before .before .before in
     let made = tested .before .before .before in
     let start = made .before .before .before .before .before .args in
     let (answer, leaves) = made .salnegris-compile .ensures in
     let rehearsed = rehearse-accepted (start .status) (start .table .now) (start .schedule .now) (accepted tested) in
-    let ran = rw (answer, leaves, rehearsed) at (run .salnegris-run .ensures .0) in
-    rw (ran, fields-line) at (c .before .before .answer .ensures)
+    let fields = rw (answer, leaves, rehearsed) at (ran .salnegris-run .ensures .0) in
+    rw (fields, fields-line) at (c .before .before .answer .ensures)
 
 pub of-table-spec : {M : Type 1} → statement M
 of-table-spec =
-    tie.close
-    (tie.spec
-    slice-aggregate-salnegris-compile
-    salnegris-compile-requires
-    refused-requires
-    same-length
-    returns
-    cast-bytes
-    mul-bytes
-    array-share-prefix-code
-    slice-aggregate-salnegris-run
-    slice-aggregate-salnegris-run-2
-    salnegris-run-requires
-    answer-requires
-    same-length-2
-    returns-2)
+    tie.close (tie.spec
+    (search needs) (search needs)
+    (search needs) (search needs) refused
+    (search needs) (search needs)
+    (λ c. within (c .before)) (λ c. sym (length-take-le _ _ (within (c .before .before))))
+    (search needs) (search needs)
+    (search needs) (search needs) run)
