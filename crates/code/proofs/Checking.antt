@@ -17,10 +17,12 @@ use Rattle.rules.specs.declared.Reason.the-variants.{CodeSize}
 use Rattle.rules.proofs.Refusals.{first-only}
 
 module _ (code : List ℕ) where
-  pub size-refused : wholeRecords codeLimit code ≡ false → checkAnswer codeTests code ≡ Refused (record { reason = CodeSize; place = 0 })
+  pub size-refused : wholeRecords codeLimit code ≡ false
+      → checkAnswer codeTests code ≡ Refused (record { reason = CodeSize; place = 0 })
   unfolding answerBy codeTests firstRefusal unless
   size-refused e = rw e
 
-  pub size-passed : wholeRecords codeLimit code ≡ true → checkAnswer codeTests code ≡ checkedBy (records code) (lowestRefusal (instructionTest code) (records code))
+  pub size-passed : wholeRecords codeLimit code ≡ true
+      → checkAnswer codeTests code ≡ checkedBy (records code) (lowestRefusal (instructionTest code) (records code))
   unfolding codeTests firstRefusal unless
   size-passed e = rw (e, first-only (lowestRefusal (instructionTest code) (records code)))

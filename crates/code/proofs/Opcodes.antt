@@ -28,7 +28,8 @@ use Rattle.code.specs.Reading.{operandFitsAt, targetFitsAt}
 -- ---- instructions
 
 module _ (code : List ℕ) (a : ℕ) where
-  pub instruction-of-opcode : {row : OpcodeRow} → opcodeAt code a ≡ some row → instructionAt code a ≡ row .instruction (operandAt code a)
+  pub instruction-of-opcode : {row : OpcodeRow} → opcodeAt code a ≡ some row
+      → instructionAt code a ≡ row .instruction (operandAt code a)
   unfolding instructionAt
   instruction-of-opcode found = rw (found, instructionAt)
 
@@ -50,7 +51,8 @@ module _ (word : ℕ) (small : word < 4294967296) where
   none-but-0 zero = refl
   none-but-0 (suc k) = lt-leb (suc k) 0 (omega arith) ∙ sym (ne-eqb (suc k) 0 (λ e. omega (arith, e)))
 
-  by-form : (opcode : ℕ) {row : OpcodeRow} → rowNumbered opcodes opcode ≡ some row → leb word (getD greatest opcode 0) ≡ operandFits (row .operand) word
+  by-form : (opcode : ℕ) {row : OpcodeRow} → rowNumbered opcodes opcode ≡ some row
+      → leb word (getD greatest opcode 0) ≡ operandFits (row .operand) word
   unfolding opcodes operandFits
   by-form =
       each-row (λ opcode row. leb word (getD greatest opcode 0) ≡ operandFits (row .operand) word) opcodes
@@ -65,7 +67,8 @@ module _ (word : ℕ) (small : word < 4294967296) where
       ▸ done)
 
   pub operand-fits : {opcode : ℕ} → RowKnown opcodes opcode → leb word (getD greatest opcode 0) ≡ operandFitsAt opcode word
-  operand-fits {opcode} known = by-form opcode (known .found) ∙ sym (row-passes opcodes (λ row. operandFits (row .operand) word) opcode (known .found))
+  operand-fits {opcode} known =
+      by-form opcode (known .found) ∙ sym (row-passes opcodes (λ row. operandFits (row .operand) word) opcode (known .found))
 
 -- ---- targets
 

@@ -27,7 +27,8 @@ use Rattle.code.specs.declared.instruction.Reading.the-variants.{Sound, 
 
 -- ---- bytes 1 to 3, added up
 
-module _ (code : List ℕ) (base : ℕ) {first others : ℕ} (one : first ≡ byteAt code (base + 1)) (two : others ≡ halfAt code (base + 2)) where
+module _ (code : List ℕ) (base : ℕ) {first others : ℕ} (one : first ≡ byteAt code (base + 1))
+    (two : others ≡ halfAt code (base + 2)) where
   padding : allZero code base (1 ∷ 2 ∷ 3 ∷ []) ≡ eqb (first + others) 0
   padding = rw (one, two) (sym (zero-padding code base))
 
@@ -52,14 +53,18 @@ module _ (code : List ℕ) (a : ℕ) where
     pub reads-unknown : rowNumbered opcodes opcode ≡ none → readingAt code a ≡ Refused (record { reason = Opcode; place = a })
     reads-unknown missing = answer-refused Refused (Sound (instructionAt code a)) (no-opcode (opcode-at missing))
 
-    module _ {word n : ℕ} (known : RowKnown opcodes opcode) (operand : word ≡ wordAt code (recordBytes * a + 4)) (size : n ≡ records code) where
+    module _ {word n : ℕ} (known : RowKnown opcodes opcode) (operand : word ≡ wordAt code (recordBytes * a + 4))
+        (size : n ≡ records code) where
       pub tests : TwoTests (instructionTest code a)
           (allZero code (recordBytes * a) (1 ∷ 2 ∷ 3 ∷ []) && operandFitsAt opcode word) (record { reason = Field; place = a })
           (targetFitsAt opcode word a n) (record { reason = Target; place = a })
       unfolding instructionTest
       tests = record {
         in-turn =
-            rw (row-passes opcodes (λ row. operandFits (row .operand) word) opcode (known .found), row-passes opcodes (λ row. targetFits (row .operand) word a n) opcode (known .found))
+            rw (
+              row-passes opcodes (λ row. operandFits (row .operand) word) opcode (known .found),
+              row-passes opcodes (λ row. targetFits (row .operand) word a n) opcode (known .found),
+            )
             (rw (operand, size) (rw (opcode-at (known .found), instructionTest)));
       }
 

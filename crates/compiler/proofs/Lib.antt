@@ -1,5 +1,4 @@
 pub mod Compiling
 pub mod Emitting
 pub mod Operands
-pub mod Stores
 pub mod Writing

@@ -26,7 +26,7 @@ use Rattle.rules.specs.declared.Instruction.{Instruction}
 use Rattle.rules.specs.declared.Instruction.the-variants.{Push, Pop, Mark, Unmark, Set, Reset}
 use Rattle.rules.proofs.Theory.Holding.{length-compile}
 use Rattle.rules.proofs.Bytes.CodeBytes.{length-bytesOf, length-bytesOf-compile, bytesOf-append}
-use Rattle.compiler.proofs.Stores.{sets-append, sets-comm, sets-front}
+use Rattle.rules.proofs.Stores.{sets-append, sets-comm, sets-front}
 
 abbrev stored : List ℕ → ℕ → List Instruction → List ℕ
 stored code a xs = sets code (recordBytes * a) (bytesOf xs)

@@ -44,4 +44,5 @@ module _ (stack : List ℕ) (m : Machine) where
 
   pub not-one : (m .height ≡ 1 → ⊥) → Over (Refused (noRule (m .address))) ≡ atLength (stateOf stack m) (m .address)
   unfolding atLength
-  not-one many = sym (not-one-item (itemsOf stack (m .height)) _ _ (λ e. many (omega (arith, e, length-itemsOf stack (m .height)))))
+  not-one many =
+      sym (not-one-item (itemsOf stack (m .height)) _ _ (λ e. many (omega (arith, e, length-itemsOf stack (m .height)))))

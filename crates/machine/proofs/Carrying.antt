@@ -56,9 +56,11 @@ module _ (stack : List ℕ) (m : Machine) where
 
   few : {A : Type 0} (otherwise : A) (f : ℤ → List Item → A) → ((n : ℤ) → f n [] ≡ otherwise) → m .height < 2
       → withNumber (itemsOf stack (m .height)) otherwise f ≡ otherwise
-  few otherwise f none h = few-items (itemsOf stack (m .height)) otherwise f none (omega (arith, h, length-itemsOf stack (m .height)))
+  few otherwise f none h =
+      few-items (itemsOf stack (m .height)) otherwise f none (omega (arith, h, length-itemsOf stack (m .height)))
 
-  other-top : {A : Type 0} (otherwise : A) (f : ℤ → List Item → A) → 1 ≤ m .height → {x : Item} → Reads x (m .height - 1) → TaggedOneOf 1 2 x
+  other-top : {A : Type 0} (otherwise : A) (f : ℤ → List Item → A) → 1 ≤ m .height → {x : Item} → Reads x (m .height - 1)
+      → TaggedOneOf 1 2 x
       → withNumber (itemsOf stack (m .height)) otherwise f ≡ otherwise
   other-top otherwise f h e tag = rw (items-top stack (m .height) h, ← e) (not-number _ otherwise f _ tag)
 
@@ -151,17 +153,24 @@ module _ (stack : List ℕ) (m : Machine) where
         pub added : {k : ℤ} → Reads (Number k) (m .height - 2) → Stored stack (m .height - 2) (Number (sum k n)) after
             → Carries Add stack m (Next (onwardOf m false (m .address + 1) (m .status) (m .height - 1))) after
         unfolding execute withNumber stepOf
-        added f put = record { ruled = rw (items-two stack (m .height) h, ← e, withNumber, ← f, replaced h put); beyond = put .beyond }
+        added f put =
+            record { ruled = rw (items-two stack (m .height) h, ← e, withNumber, ← f, replaced h put); beyond = put .beyond }
 
         module _ (put : Stored stack (m .height - 2) (Number n) after) where
           pub unmarked : (target : ℕ) {a : ℕ} → Reads (Handler a) (m .height - 2)
               → Carries (Unmark target) stack m (Next (onwardOf m false target (m .status) (m .height - 1))) after
           unfolding execute withNumber withHandler stepOf
           unmarked target f =
-              record { ruled = rw (items-two stack (m .height) h, ← e, withNumber, ← f, withHandler, replaced h put); beyond = put .beyond }
+              record {
+                ruled = rw (items-two stack (m .height) h, ← e, withNumber, ← f, withHandler, replaced h put);
+                beyond = put .beyond;
+              }
 
           pub reset : {i : Status} → Reads (Saved i) (m .height - 2)
               → Carries Reset stack m (Next (onwardOf m false (m .address + 1) i (m .height - 1))) after
           unfolding execute withNumber withSaved stepOf
           reset f =
-              record { ruled = rw (items-two stack (m .height) h, ← e, withNumber, ← f, withSaved, replaced h put); beyond = put .beyond }
+              record {
+                ruled = rw (items-two stack (m .height) h, ← e, withNumber, ← f, withSaved, replaced h put);
+                beyond = put .beyond;
+              }

@@ -41,19 +41,22 @@ module _ {code : List ℕ} {m : Machine} (here : AtInstruction code m) (schedule
       ≡ atInstruction (asks schedule) (stateOf stack m) (m .address) (instructionAt code (m .address))
   unfolding stepAt
   at-its-instruction =
-      step-running (instructions code) (asks schedule) stack m (here .running) ∙ rw (instruction-found code (m .address) (here .below), stepAt)
+      step-running (instructions code) (asks schedule) stack m (here .running)
+      ∙ rw (instruction-found code (m .address) (here .below), stepAt)
 
   pub counted : m .height ≤ itemLimit → Counted (stateOf stack m) (step (instructions code) (asks schedule) (stateOf stack m))
   counted height =
       let few : length (itemsOf stack (m .height)) ≤ itemLimit = omega (arith, height, length-itemsOf stack (m .height)) in
-      rw at-its-instruction (instruction-counted (stateOf stack m) few (asks schedule) (m .address) (instructionAt code (m .address)))
+      rw at-its-instruction
+      (instruction-counted (stateOf stack m) few (asks schedule) (m .address) (instructionAt code (m .address)))
 
 module _ {code stack : List ℕ} {m : Machine} (ready : Steppable code stack m) (schedule : List ℕ) where
   pub cut : true ≡ cuts (m .status) (asks schedule (m .reached)) → Steps code schedule stack m (Next (unwinds m)) stack
   unfolding atInstruction stepOf
   cut e = record { ruled = sym (at-its-instruction (ready .here) schedule stack ∙ rw (← e)); beyond = refl }
 
-  pub carried-out : false ≡ cuts (m .status) (asks schedule (m .reached)) → {x : Instruction} → x ≡ instructionAt code (m .address)
+  pub carried-out : false ≡ cuts (m .status) (asks schedule (m .reached)) → {x : Instruction}
+      → x ≡ instructionAt code (m .address)
       → {r : Step} {after : List ℕ} → Carries x stack m r after → Steps code schedule stack m r after
   unfolding atInstruction
   carried-out e f does = record {

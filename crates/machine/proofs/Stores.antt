@@ -1,8 +1,5 @@
 -- What a record stored in the stack says, the record being the eight bytes of a tag and an operand.
 --
---   sets-below       a run of stores leaves what lies before it
---   sets-at          what stands at a place of the run
---   drop-sets        it leaves what lies past it
 --   recorded         the stack with a record stored at place k
 --   recorded-tag, recorded-operand
 --                    the record's two fields, read back
@@ -18,83 +15,53 @@
 use Prim.Native.Nat.{ℕ, zero, suc, _+_, _*_, _^_, _≤_, _<_}
 use native.Mathlib.Omega.{arith}
 use lib.IntN.{ℤ}
-use lib.ListN.{length, getD, set, drop, length-set}
-use lib.Seq.{sets, getD-set-same, getD-set-other, drop-set-lt}
-use mathlib.Core.List.{List, [], _∷_}
-use mathlib.Core.Logic.{_≢_}
+use lib.ListN.{length, drop}
+use lib.Seq.{sets}
+use mathlib.Core.List.{List, _∷_}
 use mathlib.Core.Path.{_≡_, refl, sym, ap, _∙_}
 use mir.Syntax.{w32}
 use mir.Val.{SFits}
 use mir.Facts.{toZ-ofZ}
 use Rattle.rules.specs.Bytes.{byteAt, halfAt, wordAt, wordBytes}
 use Rattle.rules.specs.CodeBytes.{instructionRecord}
-use Rattle.rules.specs.Limits.{itemLimit, stackBytes}
+use Rattle.rules.specs.Limits.{recordBytes, itemLimit, stackBytes}
 use Rattle.rules.specs.Number.{residue}
 use Rattle.rules.specs.declared.Item.{Item}
 use Rattle.rules.specs.declared.Item.the-variants.{Number}
 use Rattle.rules.proofs.Bytes.Records.{word-whole}
+use Rattle.rules.proofs.Stores.{sets-below, sets-at, drop-sets}
 use Rattle.record.proofs.Signed.{signed-toZ, residue-ofZ}
 use Rattle.machine.specs.Items.{itemTagged, itemAt, itemsOf, Stored}
-
--- ---- runs of stores
-
-module _ {ℓ} {A : Type ℓ} where
-  pub sets-below : (l : List A) (i : ℕ) (vs : List A) (j : ℕ) (d : A) → j < i → getD (sets l i vs) j d ≡ getD l j d
-  sets-below l i [] j d h = refl
-  sets-below l i (v ∷ vs) j d h =
-      let apart : j ≢ i = λ e. omega arith in
-      let below : j < suc i = omega arith in
-      sets-below (set l i v) (suc i) vs j d below ∙ getD-set-other l i j v d apart
-
-  pub sets-at : (l : List A) (i : ℕ) (vs : List A) (n : ℕ) (d : A) → n < length vs → i + length vs ≤ length l
-      → getD (sets l i vs) (i + n) d ≡ getD vs n d
-  sets-at l i [] n d h room = absurd (omega arith)
-  sets-at l i (v ∷ vs) zero d h room =
-      let here : i + 0 ≡ i = omega arith in
-      let first : i < suc i = omega arith in
-      let inside : i < length l = omega arith in
-      rw here (sets-below (set l i v) (suc i) vs i d first ∙ getD-set-same l i v d inside)
-  sets-at l i (v ∷ vs) (suc n) d h room =
-      let there : i + suc n ≡ suc i + n = omega arith in
-      let rest : n < length vs = omega arith in
-      let fits : suc i + length vs ≤ length (set l i v) = simp length-set (omega arith) in
-      rw there (sets-at (set l i v) (suc i) vs n d rest fits)
-
-  pub drop-sets : (n : ℕ) (l : List A) (i : ℕ) (vs : List A) → i + length vs ≤ n → drop n (sets l i vs) ≡ drop n l
-  drop-sets n l i [] h = refl
-  drop-sets n l i (v ∷ vs) h =
-      let below : i < n = omega arith in
-      let rest : suc i + length vs ≤ n = omega arith in
-      drop-sets n (set l i v) (suc i) vs rest ∙ drop-set-lt n l i v below
 
 -- ---- a record at place k
 
 abbrev pub recorded : List ℕ → ℕ → ℕ → ℕ → List ℕ
-recorded stack k tag operand = sets stack (8 * k) (instructionRecord tag operand)
+recorded stack k tag operand = sets stack (recordBytes * k) (instructionRecord tag operand)
 
 length-record : (tag operand : ℕ) → length (instructionRecord tag operand) ≡ 8
 unfolding instructionRecord wordBytes
 length-record tag operand = refl
 
-module _ (stack : List ℕ) (k tag operand : ℕ) (room : 8 * k + 7 < length stack) where
-  recorded-byte : (n : ℕ) → n < 8 → byteAt (recorded stack k tag operand) (8 * k + n) ≡ byteAt (instructionRecord tag operand) n
+module _ (stack : List ℕ) (k tag operand : ℕ) (room : recordBytes * k + 7 < length stack) where
+  recorded-byte : (n : ℕ) → n < recordBytes
+      → byteAt (recorded stack k tag operand) (recordBytes * k + n) ≡ byteAt (instructionRecord tag operand) n
   recorded-byte n h =
       let inside : n < length (instructionRecord tag operand) = simp length-record h in
-      let fits : 8 * k + length (instructionRecord tag operand) ≤ length stack = simp length-record (omega arith) in
-      sets-at stack (8 * k) (instructionRecord tag operand) n 0 inside fits
+      let fits : recordBytes * k + length (instructionRecord tag operand) ≤ length stack = simp length-record (omega arith) in
+      sets-at stack (recordBytes * k) (instructionRecord tag operand) n 0 inside fits
 
-  pub recorded-tag : byteAt (recorded stack k tag operand) (8 * k) ≡ tag
+  recorded-tag : byteAt (recorded stack k tag operand) (recordBytes * k) ≡ tag
   unfolding instructionRecord
   recorded-tag =
-      let here : 8 * k ≡ 8 * k + 0 = omega arith in
+      let here : recordBytes * k ≡ recordBytes * k + 0 = omega arith in
       ap (byteAt (recorded stack k tag operand)) here ∙ recorded-byte 0 (omega arith)
 
-  pub recorded-operand : operand < 2 ^ 32 → wordAt (recorded stack k tag operand) (8 * k + 4) ≡ operand
+  recorded-operand : operand < 2 ^ 32 → wordAt (recorded stack k tag operand) (recordBytes * k + 4) ≡ operand
   unfolding wordAt halfAt instructionRecord wordBytes
   recorded-operand h =
-      let five : 8 * k + 4 + 1 ≡ 8 * k + 5 = omega arith in
-      let six : 8 * k + 4 + 2 ≡ 8 * k + 6 = omega arith in
-      let seven : 8 * k + 6 + 1 ≡ 8 * k + 7 = omega arith in
+      let five : recordBytes * k + 4 + 1 ≡ recordBytes * k + 5 = omega arith in
+      let six : recordBytes * k + 4 + 2 ≡ recordBytes * k + 6 = omega arith in
+      let seven : recordBytes * k + 6 + 1 ≡ recordBytes * k + 7 = omega arith in
       rw six
       (rw (five, seven)
       (rw (
@@ -105,41 +72,41 @@ module _ (stack : List ℕ) (k tag operand : ℕ) (room : 8 * k + 7 < length sta
       )
       (word-whole operand h)))
 
-  pub item-same : operand < 2 ^ 32 → itemAt (recorded stack k tag operand) k ≡ itemTagged tag operand
+  item-same : operand < 2 ^ 32 → itemAt (recorded stack k tag operand) k ≡ itemTagged tag operand
   unfolding itemAt
   item-same h = rw (recorded-tag, recorded-operand h)
 
-  byte-below : (i : ℕ) → i < 8 * k → byteAt (recorded stack k tag operand) i ≡ byteAt stack i
-  byte-below i = sets-below stack (8 * k) (instructionRecord tag operand) i 0
+  byte-below : (i : ℕ) → i < recordBytes * k → byteAt (recorded stack k tag operand) i ≡ byteAt stack i
+  byte-below i = sets-below stack (recordBytes * k) (instructionRecord tag operand) i 0
 
-  pub item-below : (j : ℕ) → j < k → itemAt (recorded stack k tag operand) j ≡ itemAt stack j
+  item-below : (j : ℕ) → j < k → itemAt (recorded stack k tag operand) j ≡ itemAt stack j
   unfolding itemAt wordAt halfAt
   item-below j h =
       rw (
-        byte-below (8 * j) (omega arith),
-        byte-below (8 * j + 4) (omega arith),
-        byte-below (8 * j + 4 + 1) (omega arith),
-        byte-below (8 * j + 4 + 2) (omega arith),
-        byte-below (8 * j + 4 + 2 + 1) (omega arith),
+        byte-below (recordBytes * j) (omega arith),
+        byte-below (recordBytes * j + 4) (omega arith),
+        byte-below (recordBytes * j + 4 + 1) (omega arith),
+        byte-below (recordBytes * j + 4 + 2) (omega arith),
+        byte-below (recordBytes * j + 4 + 2 + 1) (omega arith),
       )
 
-  pub items-below : (h : ℕ) → h ≤ k → itemsOf (recorded stack k tag operand) h ≡ itemsOf stack h
+  items-below : (h : ℕ) → h ≤ k → itemsOf (recorded stack k tag operand) h ≡ itemsOf stack h
   unfolding itemsOf
   items-below zero l = refl
   items-below (suc h) l = rw (item-below h (omega arith), items-below h (omega arith))
 
-  pub items-over : operand < 2 ^ 32 → itemsOf (recorded stack k tag operand) (k + 1) ≡ itemTagged tag operand ∷ itemsOf stack k
+  items-over : operand < 2 ^ 32 → itemsOf (recorded stack k tag operand) (k + 1) ≡ itemTagged tag operand ∷ itemsOf stack k
   unfolding itemsOf
   items-over h =
       let next : k + 1 ≡ suc k = omega arith in
       let all : k ≤ k = omega arith in
       rw next (rw (item-same h, items-below k all))
 
-pub beyond-same : (stack : List ℕ) (k tag operand : ℕ) → k < itemLimit
+beyond-same : (stack : List ℕ) (k tag operand : ℕ) → k < itemLimit
     → drop stackBytes (recorded stack k tag operand) ≡ drop stackBytes stack
 beyond-same stack k tag operand h =
-    let below : 8 * k + length (instructionRecord tag operand) ≤ stackBytes = simp length-record (omega arith) in
-    drop-sets stackBytes stack (8 * k) (instructionRecord tag operand) below
+    let below : recordBytes * k + length (instructionRecord tag operand) ≤ stackBytes = simp length-record (omega arith) in
+    drop-sets stackBytes stack (recordBytes * k) (instructionRecord tag operand) below
 
 -- ---- an item put
 
@@ -151,7 +118,7 @@ pub stored : {stack : List ℕ} {k : ℕ} {item : Item} {after : List ℕ} (tag 
     → stackBytes ≤ length stack → k < itemLimit → operand < 2 ^ 32
     → itemTagged tag operand ≡ item → after ≡ recorded stack k tag operand → Stored stack k item after
 stored {stack} {k} {item} {after} tag operand room place small said e =
-    let inside : 8 * k + 7 < length stack = omega arith in
+    let inside : recordBytes * k + 7 < length stack = omega arith in
     record {
       items = rw (e, items-over stack k tag operand inside small, said);
       beyond = rw e (beyond-same stack k tag operand place);

@@ -34,7 +34,8 @@ module _ {A : Type 0} (rest : List Item) (otherwise : A) where
   not-handler f (Handler h) tag = absurd (⊎-elim (λ e. omega (arith, e)) (λ e. omega (arith, e)) tag)
   not-handler f (Saved i) tag = refl
 
-  pub not-saved : (f : Status → List Item → A) (item : Item) → TaggedOneOf 0 1 item → withSaved (item ∷ rest) otherwise f ≡ otherwise
+  pub not-saved : (f : Status → List Item → A) (item : Item) → TaggedOneOf 0 1 item
+      → withSaved (item ∷ rest) otherwise f ≡ otherwise
   unfolding withSaved
   not-saved f (Number n) tag = refl
   not-saved f (Handler h) tag = refl

@@ -39,7 +39,8 @@ use Rattle.machine.specs.declared.state.Machine.{Machine}
 use Rattle.machine.specs.declared.step.Step.the-variants.{Next, Full, NoRule}
 use Rattle.machine.proofs.Stacked.{length-itemsOf, items-none}
 use Rattle.machine.proofs.Stepping.{counted}
-use Rattle.machine.proofs.Underway.{Underway, GoesOn, rest, ended, refused, out-of-steps, goes-on, step-running, step-unwinding}
+use Rattle.machine.proofs.Underway.{Underway, GoesOn, rest, ended, refused, out-of-steps, goes-on, step-running}
+use Rattle.machine.proofs.Underway.{step-unwinding}
 
 pub whole-run : (code schedule stack : List ℕ) (i : Status)
     → rest (instructions code) (asks schedule) stack (freshOf i) ≡ runs (instructions code) (asks schedule) i
@@ -59,7 +60,8 @@ module _ (code schedule : List ℕ) {stack₀ stack : List ℕ} {start m : Machi
   unfolding stepAt
   at-the-length running past e =
       ended so-far
-      (step-running (instructions code) (asks schedule) stack m running ∙ rw (instruction-missing code (m .address) past, stepAt) (sym e))
+      (step-running (instructions code) (asks schedule) stack m running
+      ∙ rw (instruction-missing code (m .address) past, stepAt) (sym e))
 
   module _ (here : AtInstruction code m) where
     pub limit-at-an-instruction : m .steps ≡ stepLimit → Answers tooManySteps
@@ -92,7 +94,8 @@ module _ (code schedule : List ℕ) {stack₀ stack : List ℕ} {start m : Machi
       pub stepped : {after : List ℕ} {next : Machine} → length after ≡ length stack
           → Steps code schedule stack m (Next next) after → GoesOn so-far after next
       unfolding stepOf
-      stepped size does = goes-on so-far (counted here schedule stack (so-far .height)) left (sym (does .ruled)) size (does .beyond)
+      stepped size does =
+          goes-on so-far (counted here schedule stack (so-far .height)) left (sym (does .ruled)) size (does .beyond)
 
   -- ---- unwinding
 
@@ -108,7 +111,10 @@ module _ (code schedule : List ℕ) {stack₀ stack : List ℕ} {start m : Machi
       one : Counted (stateOf stack m) (step (instructions code) (asks schedule) (stateOf stack m))
       one =
           let high = length-itemsOf stack (m .height) in
-          rw rule (unwound-counted (stateOf stack m) (itemsOf stack (m .height)) (omega (arith, some, high)) (omega (arith, high, so-far .height)))
+          rw rule
+          (unwound-counted (stateOf stack m) (itemsOf stack (m .height))
+          (omega (arith, some, high))
+          (omega (arith, high, so-far .height)))
 
       pub limit-unwinding : m .steps ≡ stepLimit → Answers tooManySteps
       limit-unwinding e = out-of-steps so-far one e

@@ -6,10 +6,12 @@
 --   CodeBytes       the bytes of a code
 --   WrittenCode     a code survives being written, and passes its tests
 --   CompiledCode    so does compiled code
+--   AcceptedCode    no run of accepted code comes past its length
 --   ScheduleBytes   a placing as the bytes of a schedule
 --   Answered        what compiling, evaluating and running answer, by their first refusal
 --   RefusedPlaces   where the tests refuse
 --   AnswerBounds    no field of an answer is large
+pub mod AcceptedCode
 pub mod AnswerBounds
 pub mod Answered
 pub mod CodeBytes

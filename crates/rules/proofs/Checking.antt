@@ -17,7 +17,7 @@ use native.Mathlib.Omega.{arith}
 use mathlib.Core.Bool.{Bool, true, false}
 use mathlib.Core.List.{List, [], _∷_}
 use mathlib.Core.Option.{Option, none, some}
-use mathlib.Core.Path.{_≡_, refl, ap, sym, _∙_}
+use mathlib.Core.Path.{_≡_, refl, sym}
 use Rattle.rules.specs.Bytes.{records, rowNumbered}
 use Rattle.rules.specs.Checking.{answerBy, checkedBy, checkAnswer, rowPasses}
 use Rattle.rules.specs.Refusals.{unless, firstRefusal, lowestRefusal}
@@ -65,7 +65,8 @@ module _ {A : Type 0} (refused : Refusal → A) (sound : A) {found : Option Refu
 
 -- ---- a test by a row
 
-pub row-passes : {A : Type 0} (rows : List A) (test : A → Bool) (k : ℕ) {row : A} → rowNumbered rows k ≡ some row → rowPasses rows test k ≡ test row
+pub row-passes : {A : Type 0} (rows : List A) (test : A → Bool) (k : ℕ) {row : A} → rowNumbered rows k ≡ some row
+    → rowPasses rows test k ≡ test row
 row-passes rows test k e = rw e
 
 -- ---- a checker's answer

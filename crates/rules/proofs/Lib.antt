@@ -1,6 +1,7 @@
 -- What is proved of the definitions, room by room; a room's own file says what stands in it.
 --
 --   Lists      lists, whatever they hold
+--   Stores     runs of stores in a list
 --   Refusals   tests in their order (`specs/Refusals`)
 --   Checking   what readers and checkers of records answer, and the walk over records with any test (`specs/Checking`)
 --   Step       one step of the machine, and a run (`specs/Machine`, `specs/Run`)
@@ -13,4 +14,5 @@ pub mod Computed
 pub mod Lists
 pub mod Refusals
 pub mod Step
+pub mod Stores
 pub mod Theory

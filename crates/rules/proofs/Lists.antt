@@ -1,10 +1,10 @@
 -- Looking up in a list.
 --
---   Found, found-below   below the length something stands
---   missing-past         from the length on nothing does
---   below-found          so what stands somewhere stands below the length
---   found-getD           what `getD` gives there
---   found-seam           where two lists meet
+--   missing-past         from the length on nothing stands
+--   below-found          so what stands somewhere stands below it
+--   found-getD           namely what `getD` gives
+--   found-front          of two lists, in the front one
+--   found-seam           and where they meet
 --
 -- A fact of each element and its number.
 --
@@ -30,15 +30,6 @@ use mathlib.Core.Path.{_≡_, refl, sym, _∙_}
 use Rattle.rules.specs.Bytes.{rowNumbered}
 
 module _ {A : Type 0} where
-  pub record Found (l : List A) (k : ℕ) : Type 0 where
-    pub here : A
-    pub found : getElem? l k ≡ some here
-
-  pub found-below : (l : List A) (k : ℕ) → k < length l → Found l k
-  found-below [] k h = absurd (omega arith)
-  found-below (x ∷ l) zero h = record { here = x; found = refl }
-  found-below (x ∷ l) (suc k) h = let later = found-below l k (omega arith) in record { here = later .here; found = later .found }
-
   pub missing-past : (l : List A) (k : ℕ) → length l ≤ k → getElem? l k ≡ none
   missing-past [] k h = refl
   missing-past (x ∷ l) zero h = absurd (omega arith)
@@ -54,6 +45,11 @@ module _ {A : Type 0} where
   found-getD [] k default h = absurd (omega arith)
   found-getD (x ∷ l) zero default h = refl
   found-getD (x ∷ l) (suc k) default h = found-getD l k default (omega arith)
+
+  pub found-front : (front back : List A) (k : ℕ) → k < length front → getElem? (front ++ back) k ≡ getElem? front k
+  found-front [] back k h = absurd (omega arith)
+  found-front (x ∷ front) back zero h = refl
+  found-front (x ∷ front) back (suc k) h = found-front front back k (omega arith)
 
   pub found-seam : (front : List A) (x : A) (back : List A) → getElem? (front ++ x ∷ back) (length front) ≡ some x
   found-seam [] x back = refl
@@ -88,11 +84,11 @@ abbrev pub NoneOf : ℕ → ℕ → Type 0
 NoneOf k zero = Unit
 NoneOf k (suc n) = NoneOf k n × (k ≡ suc n → ⊥)
 
-none-of : (k n : ℕ) → NoneOf k n → 1 ≤ k → k ≤ n → ⊥
-none-of k zero other l h = omega arith
-none-of k (suc n) other l h = elim (decLt n k) [
+none-of-outside : (k n : ℕ) → NoneOf k n → 1 ≤ k → k ≤ n → ⊥
+none-of-outside k zero other l h = omega arith
+none-of-outside k (suc n) other l h = elim (decLt n k) [
   | yes last ↦ other .1 (omega arith)
-  | no before ↦ none-of k n (other .0) l (omega arith)
+  | no before ↦ none-of-outside k n (other .0) l (omega arith)
 ]
 
 module _ {A : Type 0} where
@@ -102,8 +98,12 @@ module _ {A : Type 0} where
 
   pub row-known : (rows : List A) (k : ℕ) → 1 ≤ k → k ≤ length rows → RowKnown rows k
   unfolding rowNumbered
-  row-known rows zero l h = absurd (omega arith)
-  row-known rows (suc k) l h = let here = found-below rows k (omega arith) in record { row = here .here; found = here .found }
+  row-known [] k l h = absurd (omega arith)
+  row-known (row ∷ rows) zero l h = absurd (omega arith)
+  row-known (row ∷ rows) (suc zero) l h = record { row = row; found = refl }
+  row-known (row ∷ rows) (suc (suc k)) l h =
+      let later = row-known rows (suc k) (omega arith) (omega arith) in
+      record { row = later .row; found = later .found }
 
   pub row-unknown : (rows : List A) (k : ℕ) → (1 ≤ k → k ≤ length rows → ⊥) → rowNumbered rows k ≡ none
   unfolding rowNumbered
@@ -114,9 +114,10 @@ module _ {A : Type 0} where
   ]
 
   pub row-none-of : (rows : List A) (k : ℕ) → NoneOf k (length rows) → rowNumbered rows k ≡ none
-  row-none-of rows k other = row-unknown rows k (none-of k (length rows) other)
+  row-none-of rows k other = row-unknown rows k (none-of-outside k (length rows) other)
 
-  pub each-row : (P : ℕ → A → Type 0) (rows : List A) → EachFrom P 1 rows → (k : ℕ) {row : A} → rowNumbered rows k ≡ some row → P k row
+  pub each-row : (P : ℕ → A → Type 0) (rows : List A) → EachFrom P 1 rows → (k : ℕ) {row : A} → rowNumbered rows k ≡ some row
+      → P k row
   unfolding rowNumbered
   each-row P rows each zero e = absurd (Option·none-ne-some _ e)
   each-row P rows each (suc k) e = each-found each k (suc k) (omega arith) e

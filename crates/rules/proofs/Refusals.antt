@@ -2,7 +2,6 @@
 --
 --   refused-not-passed              a test does not both pass and refuse
 --   unless-passed                   a test that refuses nothing has passed
---   first-passed, first-refused     a row of tests, by its first
 --   first-only                      a row of one
 --   rows-passed, rows-refused       a row of tests, by its front
 --   first-none                      where a row refuses nothing, its first refuses nothing, nor do the others
@@ -19,7 +18,7 @@ use native.Mathlib.Numerals.{add-one}
 use native.Mathlib.Omega.{arith}
 use mathlib.Core.Bool.{Bool, true, false}
 use mathlib.Core.List.{List, [], _∷_, _++_}
-use mathlib.Core.Option.{Option, none, some}
+use mathlib.Core.Option.{Option, none, some, Option·none-ne-some, Option·some-ne-none}
 use mathlib.Core.Path.{_≡_, refl, sym, _∙_}
 use Rattle.rules.specs.Refusals.{unless, firstRefusal, lowestRefusal}
 use Rattle.rules.specs.declared.Reason.{Reason}
@@ -28,7 +27,7 @@ use Rattle.rules.specs.declared.Refusal.{Refusal}
 -- ---- a test
 
 pub refused-not-passed : {A : Type 0} {r : Refusal} → some r ≡ none → A
-refused-not-passed e = let never : _≡_ {A = ℕ} 0 1 = cc in absurd (omega arith)
+refused-not-passed e = absurd (Option·some-ne-none _ e)
 
 pub unless-passed : (passed : Bool) (reason : Reason) (place : ℕ) → unless passed reason place ≡ none → passed ≡ true
 unfolding unless
@@ -37,21 +36,13 @@ unless-passed false reason place e = refused-not-passed e
 
 -- ---- a row of tests
 
-module _ (test : Option Refusal) (tests : List (Option Refusal)) where
-  pub first-passed : test ≡ none → firstRefusal (test ∷ tests) ≡ firstRefusal tests
-  unfolding firstRefusal
-  first-passed e = rw e
-
-  pub first-refused : {r : Refusal} → test ≡ some r → firstRefusal (test ∷ tests) ≡ some r
-  unfolding firstRefusal
-  first-refused e = rw e
-
 pub first-only : (test : Option Refusal) → firstRefusal (test ∷ []) ≡ test
 unfolding firstRefusal
 first-only none = refl
 first-only (some r) = refl
 
-pub first-none : (test : Option Refusal) (tests : List (Option Refusal)) → firstRefusal (test ∷ tests) ≡ none → (test ≡ none) × (firstRefusal tests ≡ none)
+pub first-none : (test : Option Refusal) (tests : List (Option Refusal)) → firstRefusal (test ∷ tests) ≡ none
+    → (test ≡ none) × (firstRefusal tests ≡ none)
 unfolding firstRefusal
 first-none none tests e = (refl, e)
 first-none (some r) tests e = refused-not-passed e
@@ -62,15 +53,17 @@ rows-none [] back e = refl
 rows-none (none ∷ front) back e = rows-none front back e
 rows-none (some r ∷ front) back e = e
 
-pub rows-passed : (front back : List (Option Refusal)) → firstRefusal front ≡ none → firstRefusal (front ++ back) ≡ firstRefusal back
+pub rows-passed : (front back : List (Option Refusal)) → firstRefusal front ≡ none
+    → firstRefusal (front ++ back) ≡ firstRefusal back
 unfolding firstRefusal
 rows-passed [] back e = refl
 rows-passed (none ∷ front) back e = rows-passed front back e
 rows-passed (some r ∷ front) back e = refused-not-passed e
 
-pub rows-refused : (front back : List (Option Refusal)) {r : Refusal} → firstRefusal front ≡ some r → firstRefusal (front ++ back) ≡ some r
+pub rows-refused : (front back : List (Option Refusal)) {r : Refusal} → firstRefusal front ≡ some r
+    → firstRefusal (front ++ back) ≡ some r
 unfolding firstRefusal
-rows-refused [] back e = let never : _≡_ {A = ℕ} 0 1 = cc in absurd (omega arith)
+rows-refused [] back e = absurd (Option·none-ne-some _ e)
 rows-refused (none ∷ front) back e = rows-refused front back e
 rows-refused (some s ∷ front) back e = e
 
@@ -88,7 +81,8 @@ module _ (test : ℕ → Option Refusal) where
   pub lowest-next : (j : ℕ) → lowestRefusal test j ≡ none → test j ≡ none → lowestRefusal test (j + 1) ≡ none
   lowest-next j below here = rw add-one (lowest-suc j below ∙ here)
 
-  pub lowest-found : (n j : ℕ) {r : Refusal} → j < n → lowestRefusal test j ≡ none → test j ≡ some r → lowestRefusal test n ≡ some r
+  pub lowest-found : (n j : ℕ) {r : Refusal} → j < n → lowestRefusal test j ≡ none → test j ≡ some r
+      → lowestRefusal test n ≡ some r
   lowest-found zero j h below here = absurd (omega arith)
   lowest-found (suc n) j h below here = elim (decLt j n) [
     | yes lower ↦ lowest-kept n (lowest-found n j lower below here)
@@ -96,7 +90,8 @@ module _ (test : ℕ → Option Refusal) where
   ]
 
   -- below a place that is passed, all are
-  lowest-before : (n : ℕ) (o : Option Refusal) → lowestRefusal test n ≡ o → lowestRefusal test (suc n) ≡ none → lowestRefusal test n ≡ none
+  lowest-before : (n : ℕ) (o : Option Refusal) → lowestRefusal test n ≡ o → lowestRefusal test (suc n) ≡ none
+      → lowestRefusal test n ≡ none
   lowest-before n none e last = e
   lowest-before n (some r) e last = cc (lowest-kept n e)
 
@@ -115,13 +110,13 @@ module _ (test : ℕ → Option Refusal) where
   lowest-all (suc n) each = lowest-suc n (lowest-all n λ j low. each j (omega arith)) ∙ each n (omega arith)
 
 module _ (test other : ℕ → Option Refusal) where
-  same-next : (n : ℕ) (o : Option Refusal) → lowestRefusal other n ≡ o → lowestRefusal test n ≡ o → test n ≡ other n
+  lowest-same-next : (n : ℕ) (o : Option Refusal) → lowestRefusal other n ≡ o → lowestRefusal test n ≡ o → test n ≡ other n
       → lowestRefusal test (suc n) ≡ lowestRefusal other (suc n)
-  same-next n none e f here = lowest-suc test n f ∙ here ∙ sym (lowest-suc other n e)
-  same-next n (some r) e f here = lowest-kept test n f ∙ sym (lowest-kept other n e)
+  lowest-same-next n none e f here = lowest-suc test n f ∙ here ∙ sym (lowest-suc other n e)
+  lowest-same-next n (some r) e f here = lowest-kept test n f ∙ sym (lowest-kept other n e)
 
   pub lowest-same : (n : ℕ) → ((j : ℕ) → j < n → test j ≡ other j) → lowestRefusal test n ≡ lowestRefusal other n
   unfolding lowestRefusal
   lowest-same zero same = refl
   lowest-same (suc n) same =
-      same-next n (lowestRefusal other n) refl (lowest-same n (λ j h. same j (omega arith))) (same n (omega arith))
+      lowest-same-next n (lowestRefusal other n) refl (lowest-same n (λ j h. same j (omega arith))) (same n (omega arith))

@@ -1,12 +1,12 @@
 -- One step of the machine, and a run.
 --
---   Ways        a fact of each way on from a state is one of the step
+--   Effects     what a step does to a state, by a few cases
 --   Order       the rules for a step and a run, in their order
 --   Counted     a step that is taken counts one
---   Addresses   no run of accepted code comes past its length
+--   Addresses   where a run can come to
 --   Bounds      what a step adds to the totals, and where it is refused
 pub mod Addresses
 pub mod Bounds
 pub mod Counted
+pub mod Effects
 pub mod Order
-pub mod Ways

@@ -28,7 +28,7 @@ use Rattle.rules.specs.declared.Outcome.the-variants.{Ended}
 use Rattle.rules.specs.declared.Answer.{Answer}
 
 abbrev pub ofExpression : Expression → Placing → Status → Answer
-ofExpression e asks i = runs (compile 0 e) asks i
+ofExpression e placing i = runs (compile 0 e) placing i
 
 unfoldable pub mostSteps : Expression → ℕ
 mostSteps e = 3 * nodes e - 1
@@ -44,24 +44,25 @@ pub record Ends (e : Expression) (i : Status) (a : Answer) : Type 0 where
   pub withinReached : a .reached ≤ mostReached e
 
 abbrev pub AsksNothingFrom : ℕ → Placing → Type 0
-AsksNothingFrom n asks = (k : ℕ) → n ≤ k → asks k ≡ false
+AsksNothingFrom n placing = (k : ℕ) → n ≤ k → placing k ≡ false
 
 abbrev pub noRecall : Placing
 noRecall k = false
 
-pub data Meets (code : List Instruction) (asks : Placing) : State → State → Type 0 where
-  here : {s : State} → Meets code asks s s
-  later : {s next met : State} → step code asks s ≡ Next next → Meets code asks next met → Meets code asks s met
+pub data Meets (code : List Instruction) (placing : Placing) : State → State → Type 0 where
+  here : {s : State} → Meets code placing s s
+  later : {s next met : State} → step code placing s ≡ Next next → Meets code placing next met → Meets code placing s met
 
 pub record Demand (e : Expression) (i : Status) : Type 0 where
   -- "Every placing, however long, ends in a number or a throw within 3n - 1 steps", and the rules permit that end
-  pub ends : (asks : Placing) → Ends e i (ofExpression e asks i)
+  pub ends : (placing : Placing) → Ends e i (ofExpression e placing i)
   -- "each permitted end is met by a placing over the first 2n - 1 instructions reached"
-  pub meets : (v : End) → Gives e i v → (asks : Placing) × AsksNothingFrom (mostReached e) asks × (ofExpression e asks i .outcome ≡ Ended v)
+  pub meets : (v : End) → Gives e i v
+      → (placing : Placing) × AsksNothingFrom (mostReached e) placing × (ofExpression e placing i .outcome ≡ Ended v)
   -- "a number, or a throw, is the end of its compiled code under some placing exactly when the evaluation rules permit that end"
-  pub exactly : (v : End) → ((asks : Placing) × (ofExpression e asks i .outcome ≡ Ended v)) ↔ Gives e i v
+  pub exactly : (v : End) → ((placing : Placing) × (ofExpression e placing i .outcome ≡ Ended v)) ↔ Gives e i v
   -- the stack never holds more items than there are nodes
-  pub items : (asks : Placing) (s : State) → Meets (compile 0 e) asks (fresh i) s → length (s .items) ≤ nodes e
+  pub items : (placing : Placing) (s : State) → Meets (compile 0 e) placing (fresh i) s → length (s .items) ≤ nodes e
   -- "The code length is the sum of the last column above, at most 2n - 1"
   pub column : length (compile 0 e) ≡ codeLength e
   pub short : codeLength e ≤ mostReached e

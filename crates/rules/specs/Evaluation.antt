@@ -15,7 +15,8 @@ use Rattle.rules.specs.declared.End.the-variants.{Number}
 pub data Gives : Expression → Status → End → Type 0 where
   VAL : {n : ℤ} {i : Status} → Gives (Val n) i (Number n)
   THROW : {i : Status} → Gives Throw i End.Throw
-  ADD1 : {x y : Expression} {i : Status} {n m : ℤ} → Gives x i (Number n) → Gives y i (Number m) → Gives (Add x y) i (Number (sum n m))
+  ADD1 : {x y : Expression} {i : Status} {n m : ℤ} → Gives x i (Number n) → Gives y i (Number m)
+      → Gives (Add x y) i (Number (sum n m))
   ADD2 : {x y : Expression} {i : Status} → Gives x i End.Throw → Gives (Add x y) i End.Throw
   ADD3 : {x y : Expression} {i : Status} {n : ℤ} → Gives x i (Number n) → Gives y i End.Throw → Gives (Add x y) i End.Throw
   SEQN1 : {x y : Expression} {i : Status} {n : ℤ} {v : End} → Gives x i (Number n) → Gives y i v → Gives (Seqn x y) i v

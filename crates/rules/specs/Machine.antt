@@ -93,7 +93,9 @@ withNothing (item ∷ rest) otherwise x = otherwise
 
 unfoldable pub push : Item → ℕ → State → Status → Step
 push item a s i =
-    cond (ltb (length (s .items)) itemLimit) (onward s (Running (a + 1)) i (item ∷ s .items)) (Stuck (record { reason = StackFull; place = a }))
+    cond (ltb (length (s .items)) itemLimit)
+    (onward s (Running (a + 1)) i (item ∷ s .items))
+    (Stuck (record { reason = StackFull; place = a }))
 
 unfoldable pub execute : Instruction → ℕ → State → Step
 execute (Push n) a s = push (Number n) a s (s .status)
@@ -124,8 +126,8 @@ cuts Blocked asked = false
 cuts Unblocked asked = asked
 
 unfoldable pub atInstruction : Placing → State → ℕ → Instruction → Step
-atInstruction asks s a x =
-    cond (cuts (s .status) (asks (s .reached))) (onward s Unwinding (s .status) (s .items)) (execute x a s)
+atInstruction placing s a x =
+    cond (cuts (s .status) (placing (s .reached))) (onward s Unwinding (s .status) (s .items)) (execute x a s)
 
 -- "Running at the length with one item, a number, ends in that number"
 unfoldable pub atLength : State → ℕ → Step
@@ -140,12 +142,12 @@ unwind s (Handler h ∷ rest) = unwound s (Running h) (s .status) rest
 unwind s (Saved i ∷ rest) = unwound s Unwinding i rest
 
 unfoldable pub stepAt : Placing → State → ℕ → Option Instruction → Step
-stepAt asks s a none = atLength s a
-stepAt asks s a (some x) = atInstruction asks s a x
+stepAt placing s a none = atLength s a
+stepAt placing s a (some x) = atInstruction placing s a x
 
 unfoldable pub stepIn : List Instruction → Placing → State → Mode → Step
-stepIn code asks s (Running a) = stepAt asks s a (getElem? code a)
-stepIn code asks s Unwinding = unwind s (s .items)
+stepIn code placing s (Running a) = stepAt placing s a (getElem? code a)
+stepIn code placing s Unwinding = unwind s (s .items)
 
 unfoldable pub step : List Instruction → Placing → State → Step
-step code asks s = stepIn code asks s (s .mode)
+step code placing s = stepIn code placing s (s .mode)

@@ -11,7 +11,8 @@ use mathlib.Core.Bool.{Bool, true, false}
 use mathlib.Core.List.{List, [], _∷_}
 use mathlib.Core.Option.{Option, none, some}
 use Rattle.rules.specs.declared.Reason.{Reason}
-use Rattle.rules.specs.declared.Reason.the-variants.{TableSize, Kind, UnusedByte, Operand, Uses, CodeBuffer, Status, StackBuffer, CodeSize, Opcode, Field, Target, StackFull, NoRule, Steps}
+use Rattle.rules.specs.declared.Reason.the-variants.{TableSize, Kind, UnusedByte, Operand, Uses, CodeBuffer, Status}
+use Rattle.rules.specs.declared.Reason.the-variants.{StackBuffer, CodeSize, Opcode, Field, Target, StackFull, NoRule, Steps}
 use Rattle.rules.specs.declared.Refusal.{Refusal}
 
 abbrev pub refusalNumber : Reason → ℕ

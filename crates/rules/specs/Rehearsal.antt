@@ -41,5 +41,6 @@ tooShort input = ltb (length input) headBytes || ltb (length input) (headBytes +
 unfoldable pub rehearsal : List ℕ → Answer
 rehearsal input = elim (tooShort input) [
   | true ↦ refusedAnswer (record { reason = TableSize; place = 0 })
-  | false ↦ rehearse (byteAt input 0) (take (tableLength input) (drop headBytes input)) (drop (headBytes + tableLength input) input)
+  | false ↦
+      rehearse (byteAt input 0) (take (tableLength input) (drop headBytes input)) (drop (headBytes + tableLength input) input)
 ]

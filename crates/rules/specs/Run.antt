@@ -1,7 +1,7 @@
 -- A run (document 01, "One step of the machine" and "Refusal numbers").
 --
---   run code asks left s   what running from s comes to, with `left` more steps allowed
---   runs                   a run from a fresh state, with all its steps
+--   run code placing left s   what running from s comes to, with `left` more steps allowed
+--   runs                      a run from a fresh state, with all its steps
 --
 -- Assumes nothing.
 use Prim.Native.Nat.{ℕ, zero, suc}
@@ -24,10 +24,10 @@ tooManySteps = Refused (record { reason = Reason.Steps; place = 0 })
 
 -- "an end or 14 at the length comes before 15, 15 before a step"; "a refused step counts in neither total"
 unfoldable pub run : List Instruction → Placing → ℕ → State → Answer
-run code asks zero s =
-    elim (step code asks s) [ Next next ↦ answer s tooManySteps | Over o ↦ answer s o | Stuck r ↦ answer s tooManySteps ]
-run code asks (suc left) s =
-    elim (step code asks s) [ Next next ↦ run code asks left next | Over o ↦ answer s o | Stuck r ↦ answer s (Refused r) ]
+run code placing zero s =
+    elim (step code placing s) [ Next next ↦ answer s tooManySteps | Over o ↦ answer s o | Stuck r ↦ answer s tooManySteps ]
+run code placing (suc left) s =
+    elim (step code placing s) [ Next next ↦ run code placing left next | Over o ↦ answer s o | Stuck r ↦ answer s (Refused r) ]
 
 unfoldable pub runs : List Instruction → Placing → Status → Answer
-runs code asks i = run code asks stepLimit (fresh i)
+runs code placing i = run code placing stepLimit (fresh i)

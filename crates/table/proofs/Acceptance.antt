@@ -25,6 +25,7 @@ use Rattle.rules.specs.Bytes.{records}
 use Rattle.rules.specs.Checking.{checkAnswer}
 use Rattle.rules.specs.Code.{codeLength}
 use Rattle.rules.specs.Expression.{nodes}
+use Rattle.rules.specs.Limits.{recordBytes}
 use Rattle.rules.specs.Recipe.{expressionAt, recipe}
 use Rattle.rules.specs.Refusals.{firstRefusal}
 use Rattle.rules.specs.Table.{nodeAt, allBelow, nodeTest, useTest, tableTests}
@@ -53,13 +54,16 @@ accepted table e =
       some = size .some;
       few = omega (arith, size .few);
       falling = λ j h. passed-below table j (lowest-none (nodeTest table) (records table) j h walked);
-      once = λ j h. eqb-true _ _ (unless-passed _ _ _ (lowest-none (useTest table) (records table - 1) j (omega arith) (first-none _ _ last .0)));
+      once =
+          λ j h.
+          eqb-true _ _
+          (unless-passed _ _ _ (lowest-none (useTest table) (records table - 1) j (omega arith) (first-none _ _ last .0)));
     }
 
 -- ---- a node
 
 module _ {table : List ℕ} {j : ℕ} (here : AcceptedNode table j) where
-  pub record-inside : 8 * j + 7 < length table
+  pub record-inside : recordBytes * j + 7 < length table
   record-inside = omega (arith, here .accepted .size, here .within)
 
   pub says : {read node : Node} → read ≡ nodeAt table j → read ≡ node → Says table j node
@@ -88,7 +92,8 @@ module _ (table : List ℕ) {n : ℕ} (answer : checkAnswer tableTests table ≡
   last-node =
       let (passed, all) = check-accepted tableTests table answer in
       let table-accepted = accepted table passed in
-      (omega (arith, all, table-accepted .some), record { accepted = table-accepted; within = omega (arith, all, table-accepted .some) })
+      let some : 1 ≤ n = omega (arith, all, table-accepted .some) in
+      (some, record { accepted = table-accepted; within = omega (arith, all) })
 
   pub last-recipe : expressionAt table (n - 1) ≡ recipe table
   unfolding recipe

@@ -20,12 +20,14 @@ use Rattle.rules.specs.declared.Refusal.{Refusal}
 use Rattle.rules.proofs.Refusals.{first-only}
 
 module _ (table : List ℕ) where
-  pub size-refused : wholeRecords tableLimit table ≡ false → checkAnswer tableTests table ≡ Refused (record { reason = TableSize; place = 0 })
+  pub size-refused : wholeRecords tableLimit table ≡ false
+      → checkAnswer tableTests table ≡ Refused (record { reason = TableSize; place = 0 })
   unfolding answerBy tableTests firstRefusal unless
   size-refused e = rw e
 
   module _ (whole : wholeRecords tableLimit table ≡ true) where
-    pub nodes-refused : {r : Refusal} → lowestRefusal (nodeTest table) (records table) ≡ some r → checkAnswer tableTests table ≡ Refused r
+    pub nodes-refused : {r : Refusal} → lowestRefusal (nodeTest table) (records table) ≡ some r
+        → checkAnswer tableTests table ≡ Refused r
     unfolding answerBy tableTests firstRefusal unless
     nodes-refused e = rw (whole, e)
 

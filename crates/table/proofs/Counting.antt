@@ -109,7 +109,8 @@ nodes-ofNode f (Catch left right) = omega arith
 nodes-ofNode f (Block left) = omega arith
 nodes-ofNode f (Unblock left) = omega arith
 
-pub codeLength-ofNode : (f : ℕ → Expression) (node : Node) → codeLength (ofNode node f) ≡ column node + sumOver (λ k. codeLength (f k)) (operandsOf node)
+pub codeLength-ofNode : (f : ℕ → Expression) (node : Node)
+    → codeLength (ofNode node f) ≡ column node + sumOver (λ k. codeLength (f k)) (operandsOf node)
 unfolding codeLength ofNode sumOver column
 codeLength-ofNode f (Val n) = refl
 codeLength-ofNode f Throw = refl
@@ -132,7 +133,8 @@ sum-column table (suc n) = cc (sum-column table n)
 -- ---- the law
 
 module _ (table : List ℕ) (n : ℕ) (falling : Falling table n) where
-  uses-counted : (w : ℕ → ℕ) (m : ℕ) → m ≤ n → counted w (uses table m) n ≡ sumBelow (λ j. sumOver w (operandsOf (nodeAt table j))) m
+  uses-counted : (w : ℕ → ℕ) (m : ℕ) → m ≤ n
+      → counted w (uses table m) n ≡ sumBelow (λ j. sumOver w (operandsOf (nodeAt table j))) m
   unfolding uses sumBelow
   uses-counted w zero h = counted-none w (λ k. 0) n (λ k b. refl)
   uses-counted w (suc m) h =
@@ -144,7 +146,8 @@ module _ (table : List ℕ) (n : ℕ) (falling : Falling table n) where
   unfolding uses
   uses-above zero j h l = refl
   uses-above (suc m) j h l =
-      let here : times j (operandsOf (nodeAt table m)) ≡ 0 = times-above m j (omega arith) (operandsOf (nodeAt table m)) (falling m (omega arith)) in
+      let here : times j (operandsOf (nodeAt table m)) ≡ 0 =
+      times-above m j (omega arith) (operandsOf (nodeAt table m)) (falling m (omega arith)) in
       omega (arith, uses-above m j (omega arith) (omega arith))
 
   module _ (once : (j : ℕ) → j + 1 < n → uses table n j ≡ 1) (nonempty : 1 ≤ n) where
@@ -153,7 +156,8 @@ module _ (table : List ℕ) (n : ℕ) (falling : Falling table n) where
     whole-counted whole own adds =
         let under : ℕ → ℕ = λ j. sumOver whole (operandsOf (nodeAt table j)) in
         let used : ℕ → ℕ = λ k. uses table n k * whole k in
-        let by-itself : sumBelow whole n ≡ sumBelow own n + sumBelow under n = sum-same whole (λ j. own j + under j) n adds ∙ sum-add own under n in
+        let by-itself : sumBelow whole n ≡ sumBelow own n + sumBelow under n =
+        sum-same whole (λ j. own j + under j) n adds ∙ sum-add own under n in
         let by-uses : sumBelow used n ≡ sumBelow under n = uses-counted whole n (omega arith) in
         let used-once : sumBelow used (n - 1) ≡ sumBelow whole (n - 1) =
         sum-same used whole (n - 1) (λ k h. rw (once k (omega arith)) (one-mul (whole k))) in

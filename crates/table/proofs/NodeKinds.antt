@@ -29,26 +29,36 @@ module _ (table : List ℕ) (j : ℕ) where
   unfolding nodeAt
   node-of-no-kind missing = rw (missing, nodeAt)
 
--- ---- unused bytes
+-- ---- unused bytes, from the fields that were read
 
-module _ (table : List ℕ) (base : ℕ) where
+module _ (table : List ℕ) (base : ℕ) {second left right last : ℕ}
+    (one : second ≡ byteAt table (base + 1)) (two : left ≡ halfAt table (base + 2))
+    (four : right ≡ halfAt table (base + 4)) (six : last ≡ halfAt table (base + 6)) where
   -- kind 1
-  pub unused-val : eqb (byteAt table (base + 1) + halfAt table (base + 2)) 0 ≡ allZero table base (1 ∷ 2 ∷ 3 ∷ [])
-  unused-val = zero-padding table base
+  pub unused-val : eqb (second + left) 0 ≡ allZero table base (1 ∷ 2 ∷ 3 ∷ [])
+  unused-val = rw (one, two) (zero-padding table base)
 
   -- kind 2
-  pub unused-throw : eqb (byteAt table (base + 1) + halfAt table (base + 2) + halfAt table (base + 4) + halfAt table (base + 6)) 0
-      ≡ allZero table base (1 ∷ 2 ∷ 3 ∷ 4 ∷ 5 ∷ 6 ∷ 7 ∷ [])
+  pub unused-throw : eqb (second + left + right + last) 0 ≡ allZero table base (1 ∷ 2 ∷ 3 ∷ 4 ∷ 5 ∷ 6 ∷ 7 ∷ [])
   unfolding allZero
-  unused-throw = simp (zero-and, and-assoc) (rw (zero-half table base 2 (4 ∷ 5 ∷ 6 ∷ 7 ∷ []), zero-half table base 4 (6 ∷ 7 ∷ []), zero-half table base 6 [], and-true))
-
-  -- kinds 6 and 7
-  pub unused-scope : eqb (byteAt table (base + 1) + halfAt table (base + 4) + halfAt table (base + 6)) 0
-      ≡ allZero table base (1 ∷ 4 ∷ 5 ∷ 6 ∷ 7 ∷ [])
-  unfolding allZero
-  unused-scope = simp (zero-and, and-assoc) (rw (zero-half table base 4 (6 ∷ 7 ∷ []), zero-half table base 6 [], and-true))
+  unused-throw =
+      rw (one, two, four, six)
+      (simp (zero-and, and-assoc)
+      (rw (
+        zero-half table base 2 (4 ∷ 5 ∷ 6 ∷ 7 ∷ []),
+        zero-half table base 4 (6 ∷ 7 ∷ []),
+        zero-half table base 6 [],
+        and-true,
+      )))
 
   -- kinds 3, 4 and 5
-  pub unused-pair : eqb (byteAt table (base + 1) + halfAt table (base + 6)) 0 ≡ allZero table base (1 ∷ 6 ∷ 7 ∷ [])
+  pub unused-pair : eqb (second + last) 0 ≡ allZero table base (1 ∷ 6 ∷ 7 ∷ [])
   unfolding allZero
-  unused-pair = rw (zero-and, zero-half table base 6 [], and-true)
+  unused-pair = rw (one, six) (rw (zero-and, zero-half table base 6 [], and-true))
+
+  -- kinds 6 and 7
+  pub unused-scope : eqb (second + right + last) 0 ≡ allZero table base (1 ∷ 4 ∷ 5 ∷ 6 ∷ 7 ∷ [])
+  unfolding allZero
+  unused-scope =
+      rw (one, four, six)
+      (simp (zero-and, and-assoc) (rw (zero-half table base 4 (6 ∷ 7 ∷ []), zero-half table base 6 [], and-true)))

@@ -55,7 +55,10 @@ module _ (table : List ℕ) (j : ℕ) where
 
   row-tests : {row : KindRow} → kindAt table j ≡ some row
       → nodeTest table j
-      ≡ firstRefusal (unless (allZero table (recordBytes * j) (row .zeros)) UnusedByte j ∷ unless (allBelow j (operandsOf (nodeAt table j))) Operand j ∷ [])
+      ≡ firstRefusal
+      (unless (allZero table (recordBytes * j) (row .zeros)) UnusedByte j
+      ∷ unless (allBelow j (operandsOf (nodeAt table j))) Operand j
+      ∷ [])
   unfolding nodeTest
   row-tests found = rw (node-of-kind table j found) (rw (found, nodeTest))
 
@@ -72,10 +75,13 @@ module _ (table : List ℕ) (j : ℕ) where
         (unusedZero table (recordBytes * j) kind) (record { reason = UnusedByte; place = j })
         (allBelow j (operandsOf (nodeAt table j))) (record { reason = Operand; place = j })
     tests known = record {
-      in-turn = rw (row-passes kinds (λ row. allZero table (recordBytes * j) (row .zeros)) kind (known .found)) (row-tests (kind-at (known .found)));
+      in-turn =
+          rw (row-passes kinds (λ row. allZero table (recordBytes * j) (row .zeros)) kind (known .found))
+          (row-tests (kind-at (known .found)));
     }
 
-  below-by : (row : Option KindRow) → kindAt table j ≡ row → nodeTest table j ≡ none → allBelow j (operandsOf (nodeAt table j)) ≡ true
+  below-by : (row : Option KindRow) → kindAt table j ≡ row → nodeTest table j ≡ none
+      → allBelow j (operandsOf (nodeAt table j)) ≡ true
   below-by none e passed = refused-not-passed (sym (no-kind e) ∙ passed)
   below-by (some row) e passed =
       let (_, later) = first-none _ _ (sym (row-tests e) ∙ passed) in

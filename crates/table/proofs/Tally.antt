@@ -36,14 +36,16 @@ use Rattle.table.proofs.Unfolding.{below-cons, below-more}
 -- ---- one more use
 
 -- the count at k, when i is used once more
-count-more : (counts : List ℕ) (i k : ℕ) → i < length counts → getD (set counts i (getD counts i 0 + 1)) k 0 ≡ getD counts k 0 + cond (eqb k i) 1 0
+count-more : (counts : List ℕ) (i k : ℕ) → i < length counts
+    → getD (set counts i (getD counts i 0 + 1)) k 0 ≡ getD counts k 0 + cond (eqb k i) 1 0
 count-more counts i k h = elim (ℕ-discrete k i) [
   | yes same ↦ rw (same, eq-eqb i i refl) (getD-set-same counts i (getD counts i 0 + 1) 0 h)
   | no other ↦ rw (ne-eqb k i other) (getD-set-other counts i k (getD counts i 0 + 1) 0 other ∙ omega arith)
 ]
 
 one-at-most : (k i : ℕ) → cond (eqb k i) 1 0 ≤ 1
-one-at-most k i = elim (ℕ-discrete k i) [ yes same ↦ rw (eq-eqb k i same) (omega arith) | no other ↦ rw (ne-eqb k i other) (omega arith) ]
+one-at-most k i =
+    elim (ℕ-discrete k i) [ yes same ↦ rw (eq-eqb k i same) (omega arith) | no other ↦ rw (ne-eqb k i other) (omega arith) ]
 
 module _ {counts : List ℕ} {k : ℕ} {ks : List ℕ} (room : Room counts (k ∷ ks)) where
   pub room-first : k < length counts
@@ -79,7 +81,8 @@ times-few k (i ∷ ks) = omega (arith, times-few k ks, one-at-most k i)
 uses-few : (table : List ℕ) (n k : ℕ) → uses table n k ≤ 2 * n
 unfolding uses
 uses-few table zero k = omega arith
-uses-few table (suc n) k = omega (arith, uses-few table n k, times-few k (operandsOf (nodeAt table n)), few-operands (nodeAt table n))
+uses-few table (suc n) k =
+    omega (arith, uses-few table n k, times-few k (operandsOf (nodeAt table n)), few-operands (nodeAt table n))
 
 pub none-counted : (table : List ℕ) → CountsUses table 0 (replicate nodeLimit 0)
 unfolding uses
@@ -88,9 +91,11 @@ none-counted table = record { places = length-replicate {A = ℕ} nodeLimit 0; c
 length-counted : (counts ks : List ℕ) → length (counted counts ks) ≡ length counts
 unfolding counted
 length-counted counts [] = refl
-length-counted counts (k ∷ ks) = length-counted (set counts k (getD counts k 0 + 1)) ks ∙ length-set counts k (getD counts k 0 + 1)
+length-counted counts (k ∷ ks) =
+    length-counted (set counts k (getD counts k 0 + 1)) ks ∙ length-set counts k (getD counts k 0 + 1)
 
-counted-times : (counts ks : List ℕ) → allBelow (length counts) ks ≡ true → (k : ℕ) → getD (counted counts ks) k 0 ≡ getD counts k 0 + times k ks
+counted-times : (counts ks : List ℕ) → allBelow (length counts) ks ≡ true → (k : ℕ)
+    → getD (counted counts ks) k 0 ≡ getD counts k 0 + times k ks
 unfolding counted times
 counted-times counts [] below k = omega arith
 counted-times counts (i ∷ ks) below k =
@@ -99,7 +104,8 @@ counted-times counts (i ∷ ks) below k =
     let places : allBelow (length next) ks ≡ true = rw length-set others in
     omega (arith, counted-times next ks places k, count-more counts i k first)
 
-module _ {table : List ℕ} {j : ℕ} {counts : List ℕ} (so-far : CountsUses table j counts) (below : allBelow j (operandsOf (nodeAt table j)) ≡ true) (few : j < nodeLimit) where
+module _ {table : List ℕ} {j : ℕ} {counts : List ℕ} (so-far : CountsUses table j counts)
+    (below : allBelow j (operandsOf (nodeAt table j)) ≡ true) (few : j < nodeLimit) where
   places : allBelow (length counts) (operandsOf (nodeAt table j)) ≡ true
   places = below-more (operandsOf (nodeAt table j)) (omega (arith, so-far .places)) below
 

@@ -34,7 +34,8 @@ below-more (k ∷ ks) {i} {j} h below =
 
 -- ---- a node's expression depends on its operands' expressions only
 
-ofNode-operands : (f g : ℕ → Expression) (node : Node) → map f (operandsOf node) ≡ map g (operandsOf node) → ofNode node f ≡ ofNode node g
+ofNode-operands : (f g : ℕ → Expression) (node : Node) → map f (operandsOf node) ≡ map g (operandsOf node)
+    → ofNode node f ≡ ofNode node g
 unfolding ofNode
 ofNode-operands f g (Val n) e = refl
 ofNode-operands f g Throw e = refl

@@ -36,14 +36,16 @@ module _ {table : List ℕ} {n : ℕ} {counts : List ℕ} {j : ℕ} (so-far : No
   module _ (h : j < n) {node : Node} (read : readingAt table j ≡ Sound node) where
     pub nodes-room : Room counts (operandsOf node)
     nodes-room =
-        rw (node-told table j read) at (node-room (so-far .tally) (passed-below table j (told table j read)) (omega (arith, so-far .few)))
+        rw (node-told table j read) at
+        (node-room (so-far .tally) (passed-below table j (told table j read)) (omega (arith, so-far .few)))
 
     pub nodes-go-on : NodesWalked table n (counted counts (operandsOf node)) (j + 1)
     nodes-go-on = record {
       few = so-far .few;
       walked = walk-goes-on (so-far .walked) h (told table j read);
       tally =
-          rw (node-told table j read) at (node-counted (so-far .tally) (passed-below table j (told table j read)) (omega (arith, so-far .few)));
+          rw (node-told table j read) at
+          (node-counted (so-far .tally) (passed-below table j (told table j read)) (omega (arith, so-far .few)));
     }
 
   pub nodes-stop : j < n → {r : Refusal} → readingAt table j ≡ Reading.Refused r → NodesChecked table n (Refused r) counts
@@ -54,4 +56,7 @@ module _ {table : List ℕ} {n : ℕ} {counts : List ℕ} {j : ℕ} (so-far : No
   pub nodes-end : n ≤ j → NodesChecked table n (Accepted n) counts
   nodes-end h =
       let end : j ≡ n = omega (arith, so-far .walked .within) in
-      record { answer = sym (answer-passed Refused (Accepted n) (walk-ends (so-far .walked) h)); counted = λ e. rw end at (so-far .tally) }
+      record {
+        answer = sym (answer-passed Refused (Accepted n) (walk-ends (so-far .walked) h));
+        counted = λ e. rw end at (so-far .tally);
+      }

@@ -12,7 +12,7 @@ use mathlib.Core.Bool.{true}
 use mathlib.Core.List.{List}
 use mathlib.Core.Path.{_≡_}
 use Rattle.rules.specs.Bytes.{records}
-use Rattle.rules.specs.Limits.{nodeLimit}
+use Rattle.rules.specs.Limits.{recordBytes, nodeLimit}
 use Rattle.rules.specs.Recipe.{ofNode, expressionAt}
 use Rattle.rules.specs.Table.{nodeAt, operandsOf, allBelow, uses}
 use Rattle.rules.specs.declared.Node.{Node}
@@ -21,7 +21,7 @@ abbrev pub Falling : List ℕ → ℕ → Type 0
 Falling table n = (j : ℕ) → j < n → allBelow j (operandsOf (nodeAt table j)) ≡ true
 
 pub record AcceptedTable (table : List ℕ) : Type 0 where
-  pub size : length table ≡ 8 * records table
+  pub size : length table ≡ recordBytes * records table
   pub some : 1 ≤ records table
   pub few : records table ≤ nodeLimit
   pub falling : Falling table (records table)

@@ -16,7 +16,7 @@ use mathlib.Core.Bool.{true}
 use mathlib.Core.List.{List, [], _∷_}
 use mathlib.Core.Option.{Option, none}
 use mathlib.Core.Path.{_≡_}
-use Rattle.rules.specs.Limits.{nodeLimit}
+use Rattle.rules.specs.Limits.{recordBytes, nodeLimit}
 use Rattle.rules.specs.Checking.{checkedBy}
 use Rattle.rules.specs.Refusals.{unless, lowestRefusal}
 use Rattle.rules.specs.Table.{nodeTest, allBelow, uses}
@@ -42,7 +42,7 @@ countTest counts k = unless (eqb (getD counts k 0) 1) Uses k
 -- ---- the walk over the nodes
 
 pub record Countable (table : List ℕ) (n : ℕ) (counts : List ℕ) : Type 0 where
-  pub size : length table ≡ 8 * n
+  pub size : length table ≡ recordBytes * n
   pub few : n ≤ nodeLimit
   pub none : CountsUses table 0 counts
 

@@ -38,16 +38,21 @@ read-requires c κs =
 stopped : tie.Need-returns-2 Inv-loop μ-loop
 stopped c =
     let at = c .before .before .before .before in
-    let refused = walk-stops (at .before .loop .inv) (at .loop-test .taken) (told _ _ (sym (c .before .before .before .read .ensures) ∙ c .before .refusal .given .1)) in
+    let refused =
+    walk-stops (at .before .loop .inv) (at .loop-test .taken)
+    (told _ _ (sym (c .before .before .before .read .ensures) ∙ c .before .refusal .given .1)) in
     sym (size-passed _ (passed (at .before .before)) ∙ answer-refused Refused _ refused)
 
 goes-on : tie.Need-loop-again Inv-loop μ-loop
 goes-on c =
     let at = c .before .before .before in
-    walk-goes-on (at .before .loop .inv) (at .loop-test .taken) (told _ _ (sym (c .before .before .read .ensures) ∙ c .enum-told .given .1))
+    walk-goes-on (at .before .loop .inv) (at .loop-test .taken)
+    (told _ _ (sym (c .before .before .read .ensures) ∙ c .enum-told .given .1))
 
 ended : tie.Need-returns-3 Inv-loop μ-loop
-ended c = sym (size-passed _ (passed (c .before .before)) ∙ answer-passed Refused _ (walk-ends (c .before .loop .inv) (c .loop-test .left)))
+ended c =
+    let passes = walk-ends (c .before .loop .inv) (c .loop-test .left) in
+    sym (size-passed _ (passed (c .before .before)) ∙ answer-passed Refused _ passes)
 
 pub check-spec : {M : Type 1} → statement M
 check-spec =

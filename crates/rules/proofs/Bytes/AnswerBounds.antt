@@ -27,7 +27,8 @@ use Rattle.rules.specs.declared.Outcome.{Outcome}
 use Rattle.rules.specs.declared.Outcome.the-variants.{Refused}
 use Rattle.rules.specs.declared.Refusal.{Refusal}
 use Rattle.rules.specs.declared.Status.{Status}
-use Rattle.rules.proofs.Step.Addresses.{Within, Bounded, bounded-accepted, step-within}
+use Rattle.rules.proofs.Step.Addresses.{Within, Bounded, step-within}
+use Rattle.rules.proofs.Bytes.AcceptedCode.{bounded-accepted}
 use Rattle.rules.proofs.Bytes.Answered.{compile-passed, compile-refused, run-passed, run-refused}
 use Rattle.rules.proofs.Bytes.Instructions.{length-instructions}
 use Rattle.rules.proofs.Step.Order.{run-next, run-stuck, run-limit-next, run-limit-stuck, run-over}
@@ -60,7 +61,8 @@ record Underway (n left : ℕ) (s : State) : Type 0 where
   steps : s .steps + left ≤ stepLimit
   reached : s .reached ≤ s .steps
 
-module _ {n : ℕ} {code : List Instruction} (bounded : Bounded n code) (long : length code ≤ n) (few : n ≤ instructionLimit) (asks : Placing) where
+module _ {n : ℕ} {code : List Instruction} (bounded : Bounded n code) (long : length code ≤ n) (few : n ≤ instructionLimit)
+    (placing : Placing) where
   module _ {left : ℕ} {s : State} (underway : Underway n left s) where
     answer-small : (o : Outcome) → outcomePlace o ≤ n → Small (answer s o)
     answer-small o low = omega (arith, underway)
@@ -69,32 +71,37 @@ module _ {n : ℕ} {code : List Instruction} (bounded : Bounded n code) (long : 
     unfolding outcomePlace
     limit-small = answer-small tooManySteps (omega arith)
 
-    limited-here : Limited n s (step code asks s)
-    limited-here = step-limited n s code asks (underway .within .address)
+    limited-here : Limited n s (step code placing s)
+    limited-here = step-limited n s code placing (underway .within .address)
 
-  at-limit : {s : State} → Underway n zero s → (x : Step) → step code asks s ≡ x → Limited n s x → Small (run code asks zero s)
-  at-limit {s} underway (Next next) e limited = rw (run-limit-next code asks s e) (limit-small underway)
-  at-limit {s} underway (Over o) e limited = rw (run-over code asks s zero e) (answer-small underway o limited)
-  at-limit {s} underway (Stuck r) e limited = rw (run-limit-stuck code asks s e) (limit-small underway)
+  small-at-limit : {s : State} → Underway n zero s → (x : Step) → step code placing s ≡ x → Limited n s x
+      → Small (run code placing zero s)
+  small-at-limit {s} underway (Next next) e limited = rw (run-limit-next code placing s e) (limit-small underway)
+  small-at-limit {s} underway (Over o) e limited = rw (run-over code placing s zero e) (answer-small underway o limited)
+  small-at-limit {s} underway (Stuck r) e limited = rw (run-limit-stuck code placing s e) (limit-small underway)
 
-  before-limit : {left : ℕ} {s : State} → Underway n (suc left) s → ((next : State) → Underway n left next → Small (run code asks left next))
-      → (x : Step) → step code asks s ≡ x → Limited n s x → Small (run code asks (suc left) s)
+  small-before-limit : {left : ℕ} {s : State} → Underway n (suc left) s
+      → ((next : State) → Underway n left next → Small (run code placing left next))
+      → (x : Step) → step code placing s ≡ x → Limited n s x → Small (run code placing (suc left) s)
   unfolding outcomePlace
-  before-limit {left} {s} underway later (Next next) e limited =
+  small-before-limit {left} {s} underway later (Next next) e limited =
       let onward : Underway n left next = record {
-        within = step-within bounded long asks (underway .within) e;
+        within = step-within bounded long placing (underway .within) e;
         steps = omega (arith, underway .steps, limited);
         reached = omega (arith, underway .reached, limited);
       } in
-      rw (run-next code asks s left e) (later next onward)
-  before-limit {left} {s} underway later (Over o) e limited = rw (run-over code asks s (suc left) e) (answer-small underway o limited)
-  before-limit {left} {s} underway later (Stuck r) e limited = rw (run-stuck code asks s left e) (answer-small underway (Refused r) limited)
+      rw (run-next code placing s left e) (later next onward)
+  small-before-limit {left} {s} underway later (Over o) e limited =
+      rw (run-over code placing s (suc left) e) (answer-small underway o limited)
+  small-before-limit {left} {s} underway later (Stuck r) e limited =
+      rw (run-stuck code placing s left e) (answer-small underway (Refused r) limited)
 
-  underway-small : (left : ℕ) (s : State) → Underway n left s → Small (run code asks left s)
-  underway-small zero s underway = at-limit underway (step code asks s) refl (limited-here underway)
-  underway-small (suc left) s underway = before-limit underway (underway-small left) (step code asks s) refl (limited-here underway)
+  underway-small : (left : ℕ) (s : State) → Underway n left s → Small (run code placing left s)
+  underway-small zero s underway = small-at-limit underway (step code placing s) refl (limited-here underway)
+  underway-small (suc left) s underway =
+      small-before-limit underway (underway-small left) (step code placing s) refl (limited-here underway)
 
-  runs-small : (i : Status) → Small (runs code asks i)
+  runs-small : (i : Status) → Small (runs code placing i)
   unfolding runs
   runs-small i =
       let start : Within n (fresh i) = record { address = omega arith; handlers = tt } in
@@ -109,7 +116,8 @@ module _ (status : ℕ) (code schedule stack : List ℕ) where
   small-by none e passes =
       let passed : firstRefusal (codeTests code) ≡ none = first-none _ _ (first-none _ _ e .1) .1 in
       let long : length (instructions code) ≤ records code = omega (arith, length-instructions code) in
-      rw (run-passed status code schedule stack e .0) (runs-small (bounded-accepted code passed) long (accepted-few code passed) (asks schedule) (statusNumbered status))
+      rw (run-passed status code schedule stack e .0)
+      (runs-small (bounded-accepted code passed) long (accepted-few code passed) (asks schedule) (statusNumbered status))
   small-by (some r) e (refuses low) = rw (run-refused status code schedule stack e .0) (omega arith)
 
   pub run-small : Small (runAnswer status code schedule stack)

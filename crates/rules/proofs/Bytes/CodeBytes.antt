@@ -15,11 +15,12 @@ use Rattle.rules.specs.Bytes.{wordBytes}
 use Rattle.rules.specs.Code.{codeLength, compile}
 use Rattle.rules.specs.CodeBytes.{instructionRecord, instructionBytes, bytesOf}
 use Rattle.rules.specs.Expression.{Expression}
+use Rattle.rules.specs.Limits.{recordBytes}
 use Rattle.rules.specs.declared.Instruction.{Instruction}
 use Rattle.rules.specs.declared.Instruction.the-variants.{Push, Throw, Add, Pop, Mark, Unmark, Set, Reset}
 use Rattle.rules.proofs.Theory.Holding.{length-compile}
 
-pub length-instructionBytes : (x : Instruction) → length (instructionBytes x) ≡ 8
+pub length-instructionBytes : (x : Instruction) → length (instructionBytes x) ≡ recordBytes
 unfolding instructionBytes instructionRecord wordBytes
 length-instructionBytes (Push n) = refl
 length-instructionBytes Throw = refl
@@ -30,12 +31,12 @@ length-instructionBytes (Unmark t) = refl
 length-instructionBytes (Set i) = refl
 length-instructionBytes Reset = refl
 
-pub length-bytesOf : (xs : List Instruction) → length (bytesOf xs) ≡ 8 * length xs
+pub length-bytesOf : (xs : List Instruction) → length (bytesOf xs) ≡ recordBytes * length xs
 unfolding bytesOf
 length-bytesOf [] = refl
 length-bytesOf (x ∷ xs) = simp (length-append, length-instructionBytes, length-bytesOf xs) (omega arith)
 
-pub length-bytesOf-compile : (a : ℕ) (e : Expression) → length (bytesOf (compile a e)) ≡ 8 * codeLength e
+pub length-bytesOf-compile : (a : ℕ) (e : Expression) → length (bytesOf (compile a e)) ≡ recordBytes * codeLength e
 length-bytesOf-compile a e = simp (length-bytesOf, length-compile)
 
 pub bytesOf-append : (xs ys : List Instruction) → bytesOf (xs ++ ys) ≡ bytesOf xs ++ bytesOf ys

@@ -7,7 +7,7 @@
 --   compiled-passes         no test refuses them
 --
 -- Assumes nothing.
-use Prim.Native.Nat.{ℕ, zero, suc, _+_, _-_, _*_, _%_, _^_, _≤_, _<_}
+use Prim.Native.Nat.{ℕ, zero, suc, _+_, _-_, _%_, _^_, _≤_, _<_}
 use native.Mathlib.Decide.{decLt}
 use native.Mathlib.Omega.{arith}
 use borrow.Author.Tests.{lt-ltb, le-ltb}
@@ -77,20 +77,23 @@ NodeInRange (Node.Block left) = Unit
 NodeInRange (Node.Unblock left) = Unit
 
 -- whatever word and operands a record has, the node that its kind makes of them is in range
-kind-in-range : (word left right kind : ℕ) {row : KindRow} → kindNumbered kind ≡ some row → NodeInRange (row .node (signed word) left right)
+kind-in-range : (word left right kind : ℕ) {row : KindRow} → kindNumbered kind ≡ some row
+    → NodeInRange (row .node (signed word) left right)
 unfolding kinds
 kind-in-range word left right =
-    each-row (λ kind row. NodeInRange (row .node (signed word) left right)) kinds (signed-lane-count word ▸ tt ▸ tt ▸ tt ▸ tt ▸ tt ▸ tt ▸ done)
+    each-row (λ kind row. NodeInRange (row .node (signed word) left right)) kinds
+    (signed-lane-count word ▸ tt ▸ tt ▸ tt ▸ tt ▸ tt ▸ tt ▸ done)
 
-of-node : (node : Node) (operand : ℕ → Expression) → NodeInRange node → ((k : ℕ) → InRange (operand k)) → InRange (ofNode node operand)
+ofNode-in-range : (node : Node) (operand : ℕ → Expression) → NodeInRange node → ((k : ℕ) → InRange (operand k))
+    → InRange (ofNode node operand)
 unfolding ofNode
-of-node (Node.Val n) operand own below = own
-of-node Node.Throw operand own below = tt
-of-node (Node.Add left right) operand own below = (below left, below right)
-of-node (Node.Seqn left right) operand own below = (below left, below right)
-of-node (Node.Catch left right) operand own below = (below left, below right)
-of-node (Node.Block left) operand own below = below left
-of-node (Node.Unblock left) operand own below = below left
+ofNode-in-range (Node.Val n) operand own below = own
+ofNode-in-range Node.Throw operand own below = tt
+ofNode-in-range (Node.Add left right) operand own below = (below left, below right)
+ofNode-in-range (Node.Seqn left right) operand own below = (below left, below right)
+ofNode-in-range (Node.Catch left right) operand own below = (below left, below right)
+ofNode-in-range (Node.Block left) operand own below = below left
+ofNode-in-range (Node.Unblock left) operand own below = below left
 
 module _ (table : List ℕ) where
   node-in-range : (j : ℕ) (kind : Option KindRow) → kindAt table j ≡ kind → NodeInRange (nodeAt table j)
@@ -98,15 +101,16 @@ module _ (table : List ℕ) where
   node-in-range j none e = rw (e, nodeAt) tt
   node-in-range j (some row) e = rw (e, nodeAt) (kind-in-range _ _ _ _ e)
 
-  within-in-range : (levels j : ℕ) → InRange (expressionWithin levels table j)
+  expression-in-range : (levels j : ℕ) → InRange (expressionWithin levels table j)
   unfolding expressionWithin
-  within-in-range zero j = tt
-  within-in-range (suc levels) j =
-      of-node (nodeAt table j) (expressionWithin levels table) (node-in-range j (kindAt table j) refl) (within-in-range levels)
+  expression-in-range zero j = tt
+  expression-in-range (suc levels) j =
+      ofNode-in-range (nodeAt table j) (expressionWithin levels table) (node-in-range j (kindAt table j) refl)
+      (expression-in-range levels)
 
   pub recipe-in-range : InRange (recipe table)
   unfolding recipe expressionAt
-  recipe-in-range = within-in-range _ _
+  recipe-in-range = expression-in-range _ _
 
 -- ---- compiled code
 
@@ -135,11 +139,12 @@ compile-writable a (Block x) r h = set Blocked ▸ each-append refl (compile-wri
 compile-writable a (Unblock x) r h = set Unblocked ▸ each-append refl (compile-writable (a + 1) x r (omega arith)) (reset ▸ done)
 
 module _ (e : Expression) (r : InRange e) (short : codeLength e ≤ instructionLimit) where
-  writable : AllWritable (length (compile 0 e)) 0 (compile 0 e)
-  writable = rw (length-compile 0 e) (compile-writable 0 e r (omega arith))
+  compiled-writable : AllWritable (length (compile 0 e)) 0 (compile 0 e)
+  compiled-writable = rw (length-compile 0 e) (compile-writable 0 e r (omega arith))
 
   pub instructions-compiled : instructions (bytesOf (compile 0 e)) ≡ compile 0 e
-  instructions-compiled = instructions-bytesOf (compile 0 e) (rw (length-compile 0 e) short) writable
+  instructions-compiled = instructions-bytesOf (compile 0 e) (rw (length-compile 0 e) short) compiled-writable
 
   pub compiled-passes : firstRefusal (codeTests (bytesOf (compile 0 e))) ≡ none
-  compiled-passes = bytesOf-passes (compile 0 e) (rw (length-compile 0 e) short) writable (rw (length-compile 0 e) (codeLength-pos e))
+  compiled-passes =
+      bytesOf-passes (compile 0 e) (rw (length-compile 0 e) short) compiled-writable (rw (length-compile 0 e) (codeLength-pos e))

@@ -8,56 +8,43 @@
 use Prim.Native.Nat.{ℕ, zero, suc, _≤_, _<_}
 use native.Mathlib.Decide.{decLt}
 use native.Mathlib.Omega.{arith}
-use lib.ListN.{length, getElem?}
-use mathlib.Core.List.{List, [], _∷_, _++_}
+use lib.ListN.{length, getElem?, length-append}
+use mathlib.Core.List.{List, [], _∷_}
 use mathlib.Core.Option.{none, some}
 use mathlib.Core.Path.{_≡_, refl, _∙_}
 use Rattle.rules.specs.Bytes.{records}
 use Rattle.rules.specs.CodeBytes.{instructionAt, instructionsBelow, instructions}
-use Rattle.rules.proofs.Lists.{missing-past, found-seam}
-
--- ---- a list with one more at its end
-
-module _ {A : Type 0} where
-  length-more : (front : List A) (x : A) → length (front ++ x ∷ []) ≡ suc (length front)
-  length-more [] x = refl
-  length-more (y ∷ front) x = rw (length-more front x)
-
-  found-front : (front back : List A) (k : ℕ) → k < length front → getElem? (front ++ back) k ≡ getElem? front k
-  found-front [] back k h = absurd (omega arith)
-  found-front (x ∷ front) back zero h = refl
-  found-front (x ∷ front) back (suc k) h = found-front front back k (omega arith)
-
--- ---- the instructions
+use Rattle.rules.proofs.Lists.{missing-past, found-front, found-seam}
 
 module _ (code : List ℕ) where
-  length-below : (n : ℕ) → length (instructionsBelow code n) ≡ n
+  length-instructionsBelow : (n : ℕ) → length (instructionsBelow code n) ≡ n
   unfolding instructionsBelow
-  length-below zero = refl
-  length-below (suc n) = rw (length-more (instructionsBelow code n) (instructionAt code n), length-below n)
+  length-instructionsBelow zero = refl
+  length-instructionsBelow (suc n) = simp (length-append, length-instructionsBelow n) (omega arith)
 
-  found-last : (n : ℕ) → getElem? (instructionsBelow code (suc n)) n ≡ some (instructionAt code n)
+  instructionsBelow-last : (n : ℕ) → getElem? (instructionsBelow code (suc n)) n ≡ some (instructionAt code n)
   unfolding instructionsBelow
-  found-last n =
+  instructionsBelow-last n =
       let seam = found-seam (instructionsBelow code n) (instructionAt code n) [] in
-      rw (length-below n) at seam
+      rw (length-instructionsBelow n) at seam
 
-  found-below : (n a : ℕ) → a < n → getElem? (instructionsBelow code n) a ≡ some (instructionAt code a)
+  instructionsBelow-found : (n a : ℕ) → a < n → getElem? (instructionsBelow code n) a ≡ some (instructionAt code a)
   unfolding instructionsBelow
-  found-below zero a h = absurd (omega arith)
-  found-below (suc n) a h = elim (decLt a n) [
-    | yes lower ↦ let front = found-front (instructionsBelow code n) (instructionAt code n ∷ []) a (rw (length-below n) lower) in
-        front ∙ found-below n a lower
-    | no not-lower ↦ let last : a ≡ n = omega arith in rw last (found-last n)
+  instructionsBelow-found zero a h = absurd (omega arith)
+  instructionsBelow-found (suc n) a h = elim (decLt a n) [
+    | yes lower ↦
+        let below : a < length (instructionsBelow code n) = rw (length-instructionsBelow n) lower in
+        found-front (instructionsBelow code n) (instructionAt code n ∷ []) a below ∙ instructionsBelow-found n a lower
+    | no not-lower ↦ let last : a ≡ n = omega arith in rw last (instructionsBelow-last n)
   ]
 
   pub length-instructions : length (instructions code) ≡ records code
   unfolding instructions
-  length-instructions = length-below (records code)
+  length-instructions = length-instructionsBelow (records code)
 
   pub instruction-found : (a : ℕ) → a < records code → getElem? (instructions code) a ≡ some (instructionAt code a)
   unfolding instructions
-  instruction-found a h = found-below (records code) a h
+  instruction-found a h = instructionsBelow-found (records code) a h
 
   pub instruction-missing : (a : ℕ) → records code ≤ a → getElem? (instructions code) a ≡ none
   instruction-missing a h = missing-past (instructions code) a (rw length-instructions h)

@@ -39,8 +39,8 @@ module _ {n : ℕ} where
   unless-below false reason place low = refuses low
 
   -- the others are looked at only where the first has passed
-  first-below : (test : Option Refusal) (tests : List (Option Refusal)) → RefusesBelow n test → (test ≡ none → RefusesBelow n (firstRefusal tests))
-      → RefusesBelow n (firstRefusal (test ∷ tests))
+  first-below : (test : Option Refusal) (tests : List (Option Refusal)) → RefusesBelow n test
+      → (test ≡ none → RefusesBelow n (firstRefusal tests)) → RefusesBelow n (firstRefusal (test ∷ tests))
   unfolding firstRefusal
   first-below none tests here later = later refl
   first-below (some r) tests here later = here
@@ -48,7 +48,8 @@ module _ {n : ℕ} where
   only-below : (test : Option Refusal) → RefusesBelow n test → RefusesBelow n (firstRefusal (test ∷ []))
   only-below test here = rw (first-only test) here
 
-  two-below : (test other : Option Refusal) → RefusesBelow n test → RefusesBelow n other → RefusesBelow n (firstRefusal (test ∷ other ∷ []))
+  two-below : (test other : Option Refusal) → RefusesBelow n test → RefusesBelow n other
+      → RefusesBelow n (firstRefusal (test ∷ other ∷ []))
   two-below test other here there = first-below test (other ∷ []) here λ passed. only-below other there
 
   module _ (test : ℕ → Option Refusal) where
@@ -66,29 +67,30 @@ module _ {n : ℕ} where
 -- ---- a test of a record
 
 module _ {n : ℕ} (bytes : List ℕ) (j : ℕ) (low : j < n) where
-  by-kind : (kind : Option KindRow) → kindAt bytes j ≡ kind → RefusesBelow n (nodeTest bytes j)
+  node-below-by : (kind : Option KindRow) → kindAt bytes j ≡ kind → RefusesBelow n (nodeTest bytes j)
   unfolding nodeTest
-  by-kind none e = rw (e, nodeTest) (refuses low)
-  by-kind (some kind) e = rw (e, nodeTest) (two-below _ _ (unless-below _ _ j low) (unless-below _ _ j low))
+  node-below-by none e = rw (e, nodeTest) (refuses low)
+  node-below-by (some kind) e = rw (e, nodeTest) (two-below _ _ (unless-below _ _ j low) (unless-below _ _ j low))
 
   node-below : RefusesBelow n (nodeTest bytes j)
-  node-below = by-kind (kindAt bytes j) refl
+  node-below = node-below-by (kindAt bytes j) refl
 
   use-below : RefusesBelow n (useTest bytes j)
   unfolding useTest
   use-below = unless-below _ _ j low
 
-  by-opcode : (opcode : Option OpcodeRow) → opcodeAt bytes j ≡ opcode → RefusesBelow n (instructionTest bytes j)
+  instruction-below-by : (opcode : Option OpcodeRow) → opcodeAt bytes j ≡ opcode → RefusesBelow n (instructionTest bytes j)
   unfolding instructionTest
-  by-opcode none e = rw (e, instructionTest) (refuses low)
-  by-opcode (some opcode) e = rw (e, instructionTest) (two-below _ _ (unless-below _ _ j low) (unless-below _ _ j low))
+  instruction-below-by none e = rw (e, instructionTest) (refuses low)
+  instruction-below-by (some opcode) e = rw (e, instructionTest) (two-below _ _ (unless-below _ _ j low) (unless-below _ _ j low))
 
   instruction-below : RefusesBelow n (instructionTest bytes j)
-  instruction-below = by-opcode (opcodeAt bytes j) refl
+  instruction-below = instruction-below-by (opcodeAt bytes j) refl
 
 -- ---- the tests of compiling and of running
 
-sized-few : (most : ℕ) (bytes : List ℕ) (reason : Reason) → unless (wholeRecords most bytes) reason 0 ≡ none → recordBytes * records bytes ≤ most
+sized-few : (most : ℕ) (bytes : List ℕ) (reason : Reason) → unless (wholeRecords most bytes) reason 0 ≡ none
+    → recordBytes * records bytes ≤ most
 sized-few most bytes reason passed =
     let whole = whole-means most bytes (unless-passed (wholeRecords most bytes) reason 0 passed) in
     omega (arith, whole .size, whole .few)

@@ -1,7 +1,6 @@
 -- A placing as the bytes of a schedule (document 01, "One step of the machine").
 --
 --   scheduleOf placing n   the bytes for the first n instructions reached
---   length-scheduleOf      how many they are
 --   scheduleOf-bytes       each is below 256
 --   asks-scheduleOf        they ask for what the placing asks for, if that is nothing from n on
 --   asks-nothing           a schedule of no bytes asks for nothing
@@ -94,7 +93,7 @@ module _ (placing : Placing) where
   pub scheduleOf : ℕ → List ℕ
   scheduleOf n = bytesFrom 0 ((n + 7) / 8)
 
-  pub length-scheduleOf : (n : ℕ) → length (scheduleOf n) ≡ (n + 7) / 8
+  length-scheduleOf : (n : ℕ) → length (scheduleOf n) ≡ (n + 7) / 8
   unfolding scheduleOf
   length-scheduleOf n = length-bytesFrom 0 ((n + 7) / 8)
 

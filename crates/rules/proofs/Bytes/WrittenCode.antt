@@ -16,14 +16,14 @@ use lib.IntN.{ℤ, pos, negsuc}
 use lib.ListN.{length, getD, take, List·getD-append}
 use lib.Seq.{getD-append-add, take-suc, take-length}
 use mathlib.Core.Bool.{true, _&&_}
-use mathlib.Core.List.{List, [], _∷_, _++_}
+use mathlib.Core.List.{List, [], _∷_}
 use mathlib.Core.Option.{Option, none, some}
 use mathlib.Core.Path.{_≡_, refl, sym, ap, _∙_}
-use Rattle.rules.specs.Answers.{statusNumber, statusNumbered}
-use Rattle.rules.specs.Bytes.{byteAt, halfAt, wordAt, wordBytes, allZero, records, wholeRecords, rowNumbered}
+use Rattle.rules.specs.Bytes.{byteAt, halfAt, wordAt, wordBytes, allZero, records, rowNumbered}
 use Rattle.rules.specs.CodeBytes.{instructionRecord, instructionBytes, bytesOf, OpcodeRow, opcodes, opcodeAt, operandAt}
-use Rattle.rules.specs.CodeBytes.{instructionAt, instructionsBelow, instructions, operandFits, targetFits, instructionTest, codeTests}
-use Rattle.rules.specs.Limits.{instructionLimit, codeLimit}
+use Rattle.rules.specs.CodeBytes.{instructionAt, instructionsBelow, instructions}
+use Rattle.rules.specs.CodeBytes.{operandFits, targetFits, instructionTest, codeTests}
+use Rattle.rules.specs.Limits.{recordBytes, instructionLimit, codeLimit}
 use Rattle.rules.specs.Number.{residue, signed}
 use Rattle.rules.specs.Refusals.{unless, firstRefusal}
 use Rattle.rules.specs.declared.Instruction.{Instruction}
@@ -32,7 +32,7 @@ use Rattle.rules.specs.declared.Status.{Status}
 use Rattle.rules.specs.declared.Status.the-variants.{Blocked, Unblocked}
 use Rattle.rules.proofs.Bytes.CodeBytes.{length-instructionBytes, length-bytesOf}
 use Rattle.rules.proofs.Bytes.Records.{word-whole}
-use Rattle.rules.proofs.Bytes.Sizes.{whole}
+use Rattle.rules.proofs.Bytes.Sizes.{whole-passes}
 use Rattle.rules.proofs.Lists.{EachFrom, found-getD, each-found}
 use Rattle.rules.proofs.Refusals.{lowest-all}
 
@@ -83,21 +83,21 @@ Says n a x (some row) =
 target-fits : {n a t : ℕ} → a < t → t ≤ n → ltb a t && leb t n ≡ true
 target-fits {n} {a} {t} above within = rw (lt-ltb a t above, le-leb t n within)
 
-says : {n a : ℕ} {x : Instruction} → n ≤ instructionLimit → Writable n a x → Says n a x (opcodeAt (instructionBytes x) 0)
+writable-says : {n a : ℕ} {x : Instruction} → n ≤ instructionLimit → Writable n a x → Says n a x (opcodeAt (instructionBytes x) 0)
 unfolding wordAt halfAt wordBytes allZero instructionBytes instructionRecord opcodes rowNumbered opcodeAt operandFits targetFits
-says short (push {k} lane) = rw (operand-whole 1 (residue k) (residue-small k)) (ap Push lane, refl, refl)
-says short throw = (refl, refl, refl)
-says short add = (refl, refl, refl)
-says short pop = (refl, refl, refl)
-says short (mark t above within) = rw (operand-whole 5 t (omega arith)) (refl, refl, target-fits above within)
-says short (unmark t above within) = rw (operand-whole 6 t (omega arith)) (refl, refl, target-fits above within)
-says short (set Blocked) = (refl, refl, refl)
-says short (set Unblocked) = (refl, refl, refl)
-says short reset = (refl, refl, refl)
+writable-says short (push {k} lane) = rw (operand-whole 1 (residue k) (residue-small k)) (ap Push lane, refl, refl)
+writable-says short throw = (refl, refl, refl)
+writable-says short add = (refl, refl, refl)
+writable-says short pop = (refl, refl, refl)
+writable-says short (mark t above within) = rw (operand-whole 5 t (omega arith)) (refl, refl, target-fits above within)
+writable-says short (unmark t above within) = rw (operand-whole 6 t (omega arith)) (refl, refl, target-fits above within)
+writable-says short (set Blocked) = (refl, refl, refl)
+writable-says short (set Unblocked) = (refl, refl, refl)
+writable-says short reset = (refl, refl, refl)
 
 -- ---- a record among others
 
-byte-standing : (xs : List Instruction) (a i k : ℕ) → a < length xs → (k < 8) × (i ≡ 8 * a + k)
+byte-standing : (xs : List Instruction) (a i k : ℕ) → a < length xs → (k < recordBytes) × (i ≡ recordBytes * a + k)
     → byteAt (bytesOf xs) i ≡ byteAt (instructionBytes (standing xs a)) k
 unfolding bytesOf
 byte-standing [] a i k inside h = absurd (omega arith)
@@ -105,39 +105,47 @@ byte-standing (x ∷ xs) zero i k inside h =
     let here : i ≡ k = omega arith in
     rw here (List·getD-append (instructionBytes x) (bytesOf xs) 0 k (rw (length-instructionBytes x) (h .0)))
 byte-standing (x ∷ xs) (suc a) i k inside h =
-    let past : i ≡ length (instructionBytes x) + (8 * a + k) = rw (length-instructionBytes x) (omega arith) in
-    rw past (getD-append-add (instructionBytes x) (bytesOf xs) (8 * a + k) 0 ∙ byte-standing xs a (8 * a + k) k (omega arith) (h .0, refl))
+    let past : i ≡ length (instructionBytes x) + (recordBytes * a + k) = rw (length-instructionBytes x) (omega arith) in
+    let later = byte-standing xs a (recordBytes * a + k) k (omega arith) (h .0, refl) in
+    rw past (getD-append-add (instructionBytes x) (bytesOf xs) (recordBytes * a + k) 0 ∙ later)
 
 records-bytesOf : (xs : List Instruction) → records (bytesOf xs) ≡ length xs
 records-bytesOf xs = rw (length-bytesOf xs) (omega arith)
 
 module _ (xs : List Instruction) (a : ℕ) (inside : a < length xs) where
-  byte : (i k : ℕ) → (k < 8) × (i ≡ 8 * a + k) → byteAt (bytesOf xs) i ≡ byteAt (instructionBytes (standing xs a)) k
-  byte i k = byte-standing xs a i k inside
+  record-byte : (i k : ℕ) → (k < recordBytes) × (i ≡ recordBytes * a + k)
+      → byteAt (bytesOf xs) i ≡ byteAt (instructionBytes (standing xs a)) k
+  record-byte i k = byte-standing xs a i k inside
 
   opcode-standing : opcodeAt (bytesOf xs) a ≡ opcodeAt (instructionBytes (standing xs a)) 0
   unfolding opcodeAt
-  opcode-standing = rw (byte (8 * a) 0 (omega arith))
+  opcode-standing = rw (record-byte (recordBytes * a) 0 (omega arith))
 
   operand-standing : operandAt (bytesOf xs) a ≡ operandAt (instructionBytes (standing xs a)) 0
   unfolding wordAt halfAt
   operand-standing =
       rw (
-        byte (8 * a + 4) 4 (omega arith),
-        byte (8 * a + 4 + 1) 5 (omega arith),
-        byte (8 * a + 4 + 2) 6 (omega arith),
-        byte (8 * a + 4 + 2 + 1) 7 (omega arith),
+        record-byte (recordBytes * a + 4) 4 (omega arith),
+        record-byte (recordBytes * a + 4 + 1) 5 (omega arith),
+        record-byte (recordBytes * a + 4 + 2) 6 (omega arith),
+        record-byte (recordBytes * a + 4 + 2 + 1) 7 (omega arith),
       )
 
-  zeros-standing : allZero (bytesOf xs) (8 * a) (1 ∷ 2 ∷ 3 ∷ []) ≡ allZero (instructionBytes (standing xs a)) 0 (1 ∷ 2 ∷ 3 ∷ [])
+  zeros-standing : allZero (bytesOf xs) (recordBytes * a) (1 ∷ 2 ∷ 3 ∷ [])
+      ≡ allZero (instructionBytes (standing xs a)) 0 (1 ∷ 2 ∷ 3 ∷ [])
   unfolding allZero
-  zeros-standing = rw (byte (8 * a + 1) 1 (omega arith), byte (8 * a + 2) 2 (omega arith), byte (8 * a + 3) 3 (omega arith))
+  zeros-standing =
+      rw (
+        record-byte (recordBytes * a + 1) 1 (omega arith),
+        record-byte (recordBytes * a + 2) 2 (omega arith),
+        record-byte (recordBytes * a + 3) 3 (omega arith),
+      )
 
-  by-row : (o : Option OpcodeRow) → opcodeAt (bytesOf xs) a ≡ o → Says (length xs) a (standing xs a) o
+  read-by-row : (o : Option OpcodeRow) → opcodeAt (bytesOf xs) a ≡ o → Says (length xs) a (standing xs a) o
       → (instructionAt (bytesOf xs) a ≡ standing xs a) × (instructionTest (bytesOf xs) a ≡ none)
   unfolding instructionAt instructionTest firstRefusal unless
-  by-row none e said = absurd said
-  by-row (some row) e said =
+  read-by-row none e said = absurd said
+  read-by-row (some row) e said =
       rw (e, instructionAt, instructionTest)
       (rw (operand-standing, zeros-standing, records-bytesOf xs) (said .0, rw (said .1, said .2)))
 
@@ -146,7 +154,7 @@ module _ (xs : List Instruction) (a : ℕ) (inside : a < length xs) where
 module _ (xs : List Instruction) (short : length xs ≤ instructionLimit) (all : AllWritable (length xs) 0 xs) where
   read-back : (a : ℕ) → a < length xs → (instructionAt (bytesOf xs) a ≡ standing xs a) × (instructionTest (bytesOf xs) a ≡ none)
   read-back a inside =
-      by-row xs a inside _ (opcode-standing xs a inside) (says short (writable-standing a inside all))
+      read-by-row xs a inside _ (opcode-standing xs a inside) (writable-says short (writable-standing a inside all))
 
   read-below : (n : ℕ) → n ≤ length xs → instructionsBelow (bytesOf xs) n ≡ take n xs
   unfolding instructionsBelow
@@ -160,6 +168,6 @@ module _ (xs : List Instruction) (short : length xs ≤ instructionLimit) (all :
   pub bytesOf-passes : 1 ≤ length xs → firstRefusal (codeTests (bytesOf xs)) ≡ none
   unfolding codeTests firstRefusal unless
   bytesOf-passes long =
-      let bytes : length (bytesOf xs) ≡ 8 * length xs = length-bytesOf xs in
-      let size : wholeRecords codeLimit (bytesOf xs) ≡ true = whole codeLimit (bytesOf xs) (omega arith) (omega arith) (omega arith) in
+      let bytes : length (bytesOf xs) ≡ recordBytes * length xs = length-bytesOf xs in
+      let size = whole-passes codeLimit (bytesOf xs) (omega arith) (omega arith) (omega arith) in
       rw (size, records-bytesOf xs, lowest-all (instructionTest (bytesOf xs)) (length xs) λ a inside. read-back a inside .1)

@@ -25,7 +25,8 @@ abbrev comes : List Instruction → Answer → Foreign
 comes code answer = record { code = code; answer = answer }
 
 abbrev refused : Reason → ℕ → ℕ → ℕ → Answer
-refused reason place steps reached = record { outcome = Refused (record { reason = reason; place = place }); steps = steps; reached = reached }
+refused reason place steps reached =
+    record { outcome = Refused (record { reason = reason; place = place }); steps = steps; reached = reached }
 
 -- "each with the next address as target, then THROW"
 marks : ℕ → ℕ → List Instruction

@@ -145,7 +145,8 @@ codes =
 runFields : Answer → List ℕ
 runFields a = outcomeRefusal (a .outcome) ∷ outcomePlace (a .outcome) ∷ a .steps ∷ a .reached ∷ []
 
-codes-tried : map (λ c. runFields (runAnswer (c .status) (c .code) [] (replicate (c .room) 170))) codes ≡ map (λ c. c .answer) codes
+codes-tried : map (λ c. runFields (runAnswer (c .status) (c .code) [] (replicate (c .room) 170))) codes
+    ≡ map (λ c. c .answer) codes
 unfolding computing runFields codes
 codes-tried = refl
 

@@ -27,7 +27,8 @@ record Witness : Type 0 where
   answer : Answer
 
 abbrev comes : Expression → Status → ℕ → End → ℕ → ℕ → Witness
-comes e i k v steps reached = record { recipe = e; status = i; recall = k; answer = record { outcome = Ended v; steps = steps; reached = reached } }
+comes e i k v steps reached =
+    record { recipe = e; status = i; recall = k; answer = record { outcome = Ended v; steps = steps; reached = reached } }
 
 -- one recall, at an instruction reached
 recallAt : ℕ → Placing

@@ -18,7 +18,8 @@ use mathlib.Core.Bool.{true, false}
 use mathlib.Core.List.{List}
 use mathlib.Core.Option.{some}
 use mathlib.Core.Path.{_≡_}
-use Rattle.rules.specs.Machine.{State, Running, Unwinding, Placing, Next, Over, Stuck, onward, execute, cuts, atInstruction, stepAt, stepIn, step}
+use Rattle.rules.specs.Machine.{State, Running, Unwinding, Placing, Next, Over, Stuck}
+use Rattle.rules.specs.Machine.{onward, execute, cuts, atInstruction, stepAt, stepIn, step}
 use Rattle.rules.specs.Run.{answer, tooManySteps, run}
 use Rattle.rules.specs.declared.Status.{Status}
 use Rattle.rules.specs.declared.Instruction.{Instruction}
@@ -36,33 +37,35 @@ unwinding i s t r = record { mode = Unwinding; status = i; items = s; steps = t;
 pub record Has (code : List Instruction) (a : ℕ) (x : Instruction) : Type 0 where
   pub found : getElem? code a ≡ some x
 
-module _ {code : List Instruction} {a : ℕ} {x : Instruction} (asks : Placing) (i : Status) (s : List Item) (t r : ℕ) (h : Has code a x) where
-  pub step-cut : cuts i (asks r) ≡ true → step code asks (running a i s t r) ≡ onward (running a i s t r) Unwinding i s
+module _ {code : List Instruction} {a : ℕ} {x : Instruction} (placing : Placing) (i : Status) (s : List Item) (t r : ℕ)
+    (h : Has code a x) where
+  pub step-cut : cuts i (placing r) ≡ true → step code placing (running a i s t r) ≡ onward (running a i s t r) Unwinding i s
   unfolding step stepIn stepAt atInstruction
   step-cut e = rw (h .found, stepAt, e)
 
-  pub step-carried : cuts i (asks r) ≡ false → step code asks (running a i s t r) ≡ execute x a (running a i s t r)
+  pub step-carried : cuts i (placing r) ≡ false → step code placing (running a i s t r) ≡ execute x a (running a i s t r)
   unfolding step stepIn stepAt atInstruction
   step-carried e = rw (h .found, stepAt, e)
 
-module _ (code : List Instruction) (asks : Placing) (s : State) where
-  pub run-next : (left : ℕ) {next : State} → step code asks s ≡ Next next → run code asks (suc left) s ≡ run code asks left next
+module _ (code : List Instruction) (placing : Placing) (s : State) where
+  pub run-next : (left : ℕ) {next : State} → step code placing s ≡ Next next
+      → run code placing (suc left) s ≡ run code placing left next
   unfolding run
   run-next left e = rw (e, run)
 
-  pub run-stuck : (left : ℕ) {r : Refusal} → step code asks s ≡ Stuck r → run code asks (suc left) s ≡ answer s (Refused r)
+  pub run-stuck : (left : ℕ) {r : Refusal} → step code placing s ≡ Stuck r → run code placing (suc left) s ≡ answer s (Refused r)
   unfolding run
   run-stuck left e = rw (e, run)
 
-  pub run-limit-next : {next : State} → step code asks s ≡ Next next → run code asks zero s ≡ answer s tooManySteps
+  pub run-limit-next : {next : State} → step code placing s ≡ Next next → run code placing zero s ≡ answer s tooManySteps
   unfolding run
   run-limit-next e = rw (e, run)
 
-  pub run-limit-stuck : {r : Refusal} → step code asks s ≡ Stuck r → run code asks zero s ≡ answer s tooManySteps
+  pub run-limit-stuck : {r : Refusal} → step code placing s ≡ Stuck r → run code placing zero s ≡ answer s tooManySteps
   unfolding run
   run-limit-stuck e = rw (e, run)
 
-  pub run-over : (left : ℕ) {o : Outcome} → step code asks s ≡ Over o → run code asks left s ≡ answer s o
+  pub run-over : (left : ℕ) {o : Outcome} → step code placing s ≡ Over o → run code placing left s ≡ answer s o
   unfolding run
   run-over zero e = rw (e, run)
   run-over (suc left) e = rw (e, run)

@@ -54,7 +54,8 @@ unfolding resetBits
 length-resetBits (End.Number n) rest = omega arith
 length-resetBits End.Throw rest = omega arith
 
-pub length-bits : {e : Expression} {i : Status} {v : End} (d : Gives e i v) (rest : List Bool) → length (bits d rest) + 1 ≤ length rest + 2 * nodes e
+pub length-bits : {e : Expression} {i : Status} {v : End} (d : Gives e i v) (rest : List Bool)
+    → length (bits d rest) + 1 ≤ length rest + 2 * nodes e
 unfolding bits nodes
 length-bits VAL rest = omega arith
 length-bits THROW rest = omega arith
@@ -71,39 +72,41 @@ length-bits (INT {e = e}) rest = omega (arith, nodes-pos e)
 
 -- ---- placings that read them
 
-pub data Reads (asks : Placing) : ℕ → List Bool → Type 0 where
-  none : {r : ℕ} → Reads asks r []
-  bit : {r : ℕ} {b : Bool} {rest : List Bool} → asks r ≡ b → Reads asks (r + 1) rest → Reads asks r (b ∷ rest)
+pub data Reads (placing : Placing) : ℕ → List Bool → Type 0 where
+  none : {r : ℕ} → Reads placing r []
+  bit : {r : ℕ} {b : Bool} {rest : List Bool} → placing r ≡ b → Reads placing (r + 1) rest → Reads placing r (b ∷ rest)
 
-calmly : (i : Status) {asked : Bool} → asked ≡ false → cuts i asked ≡ false
+unasked-uncut : (i : Status) {asked : Bool} → asked ≡ false → cuts i asked ≡ false
 unfolding cuts
-calmly Blocked e = refl
-calmly Unblocked e = e
+unasked-uncut Blocked e = refl
+unasked-uncut Unblocked e = e
 
 -- ---- how far a run has come: `u` is the state but for the counts
 
-module _ (code : List Instruction) (asks : Placing) (room : ℕ) where
+module _ (code : List Instruction) (placing : Placing) (room : ℕ) where
   pub data Comes (from : State) (u : ℕ → ℕ → State) (row : List Bool) : Type 0 where
-    by : {t r : ℕ} → Path code asks room from (u t r) → Reads asks r row → Comes from u row
+    by : {t r : ℕ} → Path code placing room from (u t r) → Reads placing r row → Comes from u row
 
-module _ {code : List Instruction} {asks : Placing} {room : ℕ} {from : State} {u w : ℕ → ℕ → State} (row : List Bool) where
+module _ {code : List Instruction} {placing : Placing} {room : ℕ} {from : State} {u w : ℕ → ℕ → State} (row : List Bool) where
   -- an instruction carried out
-  carry : ((t r : ℕ) → asks r ≡ false → Goes code asks room (u t r) (w (t + 1) (r + 1))) → Comes code asks room from u (false ∷ row) → Comes code asks room from w row
+  carry : ((t r : ℕ) → placing r ≡ false → Goes code placing room (u t r) (w (t + 1) (r + 1)))
+      → Comes code placing room from u (false ∷ row) → Comes code placing room from w row
   carry g (by {t = t} {r = r} path (bit e reads)) = by (path ▹ g t r e ▸ done) reads
 
   -- an item removed in unwinding
-  undo : ((t r : ℕ) → Goes code asks room (u t r) (w (t + 1) r)) → Comes code asks room from u row → Comes code asks room from w row
+  undo : ((t r : ℕ) → Goes code placing room (u t r) (w (t + 1) r))
+      → Comes code placing room from u row → Comes code placing room from w row
   undo g (by {t = t} {r = r} path reads) = by (path ▹ g t r ▸ done) reads
 
 -- the first instruction of an expression
-first : {code : List Instruction} {a b : ℕ} {e : Expression} → Holds code a e b → (x : Instruction) × Has code a x
-first (val {n = n} h) = (Instruction.Push n, h)
-first (throw h) = (Instruction.Throw, h)
-first (add hx hy h) = first hx
-first (seqn hx h hy) = first hx
-first (catch {b = b} mark hx unmark hy) = (Instruction.Mark (b + 1), mark)
-first (block set hx reset) = (Instruction.Set Blocked, set)
-first (unblock set hx reset) = (Instruction.Set Unblocked, set)
+first-instruction : {code : List Instruction} {a b : ℕ} {e : Expression} → Holds code a e b → (x : Instruction) × Has code a x
+first-instruction (val {n = n} h) = (Instruction.Push n, h)
+first-instruction (throw h) = (Instruction.Throw, h)
+first-instruction (add hx hy h) = first-instruction hx
+first-instruction (seqn hx h hy) = first-instruction hx
+first-instruction (catch {b = b} mark hx unmark hy) = (Instruction.Mark (b + 1), mark)
+first-instruction (block set hx reset) = (Instruction.Set Blocked, set)
+first-instruction (unblock set hx reset) = (Instruction.Set Unblocked, set)
 
 -- ---- every derivation
 
@@ -111,40 +114,47 @@ abbrev pub arrival : End → ℕ → Status → List Item → ℕ → ℕ → St
 arrival (End.Number n) b i s = running b i (Number n ∷ s)
 arrival End.Throw b i s = unwinding i s
 
-module _ {code : List Instruction} {asks : Placing} {room : ℕ} {from : State} (small : room ≤ itemLimit) where
-  recalled : {a b : ℕ} {e : Expression} {s : List Item} (row : List Bool) → Holds code a e b → length s ≤ room
-      → Comes code asks room from (running a Unblocked s) (true ∷ row) → Comes code asks room from (unwinding Unblocked s) row
+module _ {code : List Instruction} {placing : Placing} {room : ℕ} {from : State} (small : room ≤ itemLimit) where
+  recall-arrives : {a b : ℕ} {e : Expression} {s : List Item} (row : List Bool) → Holds code a e b → length s ≤ room
+      → Comes code placing room from (running a Unblocked s) (true ∷ row)
+      → Comes code placing room from (unwinding Unblocked s) row
   unfolding cuts
-  recalled row h f (by path (bit e reads)) = by (path ▹ cut (first h .1) e f ▸ done) reads
+  recall-arrives row h f (by path (bit e reads)) = by (path ▹ cut (first-instruction h .1) e f ▸ done) reads
 
   -- RESET after a number, a saved status restored after a throw
-  leave : (v : End) (i j : Status) (s : List Item) (row : List Bool) {b : ℕ} → Has code b Instruction.Reset → suc (length s) ≤ room
-      → Comes code asks room from (arrival v b j (Saved i ∷ s)) (resetBits v row) → Comes code asks room from (arrival v (b + 1) i s) row
+  reset-arrives : (v : End) (i j : Status) (s : List Item) (row : List Bool) {b : ℕ}
+      → Has code b Instruction.Reset → suc (length s) ≤ room
+      → Comes code placing room from (arrival v b j (Saved i ∷ s)) (resetBits v row)
+      → Comes code placing room from (arrival v (b + 1) i s) row
   unfolding resetBits execute withNumber withSaved
-  leave (End.Number n) i j s row reset f p = carry row (λ t r e. go reset (calmly j e) refl f) p
-  leave End.Throw i j s row reset f p = let f₀ : length s ≤ room = omega arith in undo row (λ t r. restore f₀) p
+  reset-arrives (End.Number n) i j s row reset f p = carry row (λ t r e. go reset (unasked-uncut j e) refl f) p
+  reset-arrives End.Throw i j s row reset f p = let f₀ : length s ≤ room = omega arith in undo row (λ t r. restore f₀) p
 
   -- SET j, x, RESET: what Block and Unblock have in common
-  within : (v : End) (i j : Status) (s : List Item) (inside row : List Bool) {a b : ℕ} → Has code a (Instruction.Set j) → Has code b Instruction.Reset
-      → suc (length s) ≤ room
-      → (Comes code asks room from (running (a + 1) j (Saved i ∷ s)) inside → Comes code asks room from (arrival v b j (Saved i ∷ s)) (resetBits v row))
-      → Comes code asks room from (running a i s) (false ∷ inside) → Comes code asks room from (arrival v (b + 1) i s) row
+  scope-arrives : (v : End) (i j : Status) (s : List Item) (inside row : List Bool) {a b : ℕ}
+      → Has code a (Instruction.Set j) → Has code b Instruction.Reset → suc (length s) ≤ room
+      → (Comes code placing room from (running (a + 1) j (Saved i ∷ s)) inside
+      → Comes code placing room from (arrival v b j (Saved i ∷ s)) (resetBits v row))
+      → Comes code placing room from (running a i s) (false ∷ inside)
+      → Comes code placing room from (arrival v (b + 1) i s) row
   unfolding execute
-  within v i j s inside row set reset f inner p =
-      leave v i j s row reset f (inner (carry inside (λ t r e. pushes small set (calmly i e) refl f) p))
+  scope-arrives v i j s inside row set reset f inner p =
+      reset-arrives v i j s row reset f (inner (carry inside (λ t r e. pushes small set (unasked-uncut i e) refl f) p))
 
-  pub arrives : {e : Expression} {i : Status} {v : End} (d : Gives e i v) {a b : ℕ} → Holds code a e b → (s : List Item) → length s + nodes e ≤ room
-      → (row : List Bool) → Comes code asks room from (running a i s) (bits d row) → Comes code asks room from (arrival v b i s) row
+  pub arrives : {e : Expression} {i : Status} {v : End} (d : Gives e i v) {a b : ℕ} → Holds code a e b
+      → (s : List Item) → length s + nodes e ≤ room
+      → (row : List Bool) → Comes code placing room from (running a i s) (bits d row)
+      → Comes code placing room from (arrival v b i s) row
   unfolding nodes bits execute withNumber withHandler withSaved
   arrives (VAL {i = i}) (val h) s f row p =
       let f₁ : suc (length s) ≤ room = omega arith in
-      carry row (λ t r e. pushes small h (calmly i e) refl f₁) p
+      carry row (λ t r e. pushes small h (unasked-uncut i e) refl f₁) p
   arrives (THROW {i = i}) (throw h) s f row p =
       let f₀ : length s ≤ room = omega arith in
-      carry row (λ t r e. go h (calmly i e) refl f₀) p
+      carry row (λ t r e. go h (unasked-uncut i e) refl f₀) p
   arrives (ADD1 {x = x} {i = i} {n = n} dx dy) (add hx hy h) s f row p =
       let f₁ : suc (length s) ≤ room = omega arith in
-      carry row (λ t r e. go h (calmly i e) refl f₁)
+      carry row (λ t r e. go h (unasked-uncut i e) refl f₁)
       (arrives dy hy (Number n ∷ s) (omega (arith, nodes-pos x)) (false ∷ row)
       (arrives dx hx s (omega arith) (bits dy (false ∷ row)) p))
   arrives (ADD2 dx) (add hx hy h) s f row p = arrives dx hx s (omega arith) row p
@@ -156,25 +166,25 @@ module _ {code : List Instruction} {asks : Placing} {room : ℕ} {from : State} 
   arrives (SEQN1 {i = i} dx dy) (seqn hx h hy) s f row p =
       let f₀ : length s ≤ room = omega arith in
       arrives dy hy s (omega arith) row
-      (carry (bits dy row) (λ t r e. go h (calmly i e) refl f₀)
+      (carry (bits dy row) (λ t r e. go h (unasked-uncut i e) refl f₀)
       (arrives dx hx s (omega arith) (false ∷ bits dy row) p))
   arrives (SEQN2 dx) (seqn hx h hy) s f row p = arrives dx hx s (omega arith) row p
   arrives (CATCH1 {y = y} {i = i} dx) (catch {b = b} mark hx unmark hy) s f row p =
       let f₁ : suc (length s) ≤ room = omega arith in
-      carry row (λ t r e. go unmark (calmly i e) refl f₁)
+      carry row (λ t r e. go unmark (unasked-uncut i e) refl f₁)
       (arrives dx hx (Handler (b + 1) ∷ s) (omega (arith, nodes-pos y)) (false ∷ row)
-      (carry (bits dx (false ∷ row)) (λ t r e. pushes small mark (calmly i e) refl f₁) p))
+      (carry (bits dx (false ∷ row)) (λ t r e. pushes small mark (unasked-uncut i e) refl f₁) p))
   arrives (CATCH2 {y = y} {i = i} dx dy) (catch {b = b} mark hx unmark hy) s f row p =
       let f₀ : length s ≤ room = omega arith in
       let f₁ : suc (length s) ≤ room = omega arith in
       arrives dy hy s (omega arith) row
       (undo (bits dy row) (λ t r. handle f₀)
       (arrives dx hx (Handler (b + 1) ∷ s) (omega (arith, nodes-pos y)) (bits dy row)
-      (carry (bits dx (bits dy row)) (λ t r e. pushes small mark (calmly i e) refl f₁) p)))
+      (carry (bits dx (bits dy row)) (λ t r e. pushes small mark (unasked-uncut i e) refl f₁) p)))
   arrives (BLOCK {i = i} {v = v} dx) (block set hx reset) s f row p =
-      within v i Blocked s (bits dx (resetBits v row)) row set reset (omega arith)
+      scope-arrives v i Blocked s (bits dx (resetBits v row)) row set reset (omega arith)
       (λ q. arrives dx hx (Saved i ∷ s) (omega arith) (resetBits v row) q) p
   arrives (UNBLOCK {i = i} {v = v} dx) (unblock set hx reset) s f row p =
-      within v i Unblocked s (bits dx (resetBits v row)) row set reset (omega arith)
+      scope-arrives v i Unblocked s (bits dx (resetBits v row)) row set reset (omega arith)
       (λ q. arrives dx hx (Saved i ∷ s) (omega arith) (resetBits v row) q) p
-  arrives INT h s f row p = recalled row h (omega arith) p
+  arrives INT h s f row p = recall-arrives row h (omega arith) p

@@ -73,26 +73,32 @@ codeLength-nodes (Unblock x) = omega (arith, codeLength-nodes x)
 pub data Holds (code : List Instruction) : ℕ → Expression → ℕ → Type 0 where
   val : {a : ℕ} {n : ℤ} → Has code a (Push n) → Holds code a (Val n) (a + 1)
   throw : {a : ℕ} → Has code a Instruction.Throw → Holds code a Throw (a + 1)
-  add : {a b c : ℕ} {x y : Expression} → Holds code a x b → Holds code b y c → Has code c Instruction.Add → Holds code a (Add x y) (c + 1)
+  add : {a b c : ℕ} {x y : Expression} → Holds code a x b → Holds code b y c → Has code c Instruction.Add
+      → Holds code a (Add x y) (c + 1)
   seqn : {a b c : ℕ} {x y : Expression} → Holds code a x b → Has code b Pop → Holds code (b + 1) y c → Holds code a (Seqn x y) c
-  catch : {a b c : ℕ} {x y : Expression} → Has code a (Mark (b + 1)) → Holds code (a + 1) x b → Has code b (Unmark c) → Holds code (b + 1) y c
-      → Holds code a (Catch x y) c
-  block : {a b : ℕ} {x : Expression} → Has code a (Set Blocked) → Holds code (a + 1) x b → Has code b Reset → Holds code a (Block x) (b + 1)
-  unblock : {a b : ℕ} {x : Expression} → Has code a (Set Unblocked) → Holds code (a + 1) x b → Has code b Reset → Holds code a (Unblock x) (b + 1)
+  catch : {a b c : ℕ} {x y : Expression} → Has code a (Mark (b + 1)) → Holds code (a + 1) x b → Has code b (Unmark c)
+      → Holds code (b + 1) y c → Holds code a (Catch x y) c
+  block : {a b : ℕ} {x : Expression} → Has code a (Set Blocked) → Holds code (a + 1) x b → Has code b Reset
+      → Holds code a (Block x) (b + 1)
+  unblock : {a b : ℕ} {x : Expression} → Has code a (Set Unblocked) → Holds code (a + 1) x b → Has code b Reset
+      → Holds code a (Unblock x) (b + 1)
 
 -- ---- compiled code
 
-has : {code : List Instruction} {a : ℕ} {x : Instruction} (front back : List Instruction) → length front ≡ a → code ≡ front ++ x ∷ back → Has code a x
+has : {code : List Instruction} {a : ℕ} {x : Instruction} (front back : List Instruction) → length front ≡ a
+    → code ≡ front ++ x ∷ back → Has code a x
 has {x = x} front back l e = record { found = rw (e, ← l) (found-seam front x back) }
 
 -- SET i, x, RESET: what Block and Unblock have in common
 scope-holds : {code : List Instruction} (i : Status) (a : ℕ) (x : Expression) (front back : List Instruction) → length front ≡ a
     → code ≡ front ++ (Set i ∷ compile (a + 1) x ++ (Reset ∷ []) ++ back)
-    → ((before after : List Instruction) → length before ≡ a + 1 → code ≡ before ++ (compile (a + 1) x ++ after) → Holds code (a + 1) x (a + 1 + codeLength x))
+    → ((before after : List Instruction) → length before ≡ a + 1 → code ≡ before ++ (compile (a + 1) x ++ after)
+    → Holds code (a + 1) x (a + 1 + codeLength x))
     → Has code a (Set i) × Holds code (a + 1) x (a + 1 + codeLength x) × Has code (a + 1 + codeLength x) Reset
 scope-holds i a x front back l e inner =
     let first : length (front ++ Set i ∷ []) ≡ a + 1 = simp length-append (omega arith) in
-    let last : length (front ++ Set i ∷ compile (a + 1) x) ≡ a + 1 + codeLength x = simp (length-append, length-compile) (omega arith) in (
+    let last : length (front ++ Set i ∷ compile (a + 1) x) ≡ a + 1 + codeLength x =
+    simp (length-append, length-compile) (omega arith) in (
       has front (compile (a + 1) x ++ Reset ∷ back) l (e ∙ simp append-assoc),
       inner (front ++ Set i ∷ []) (Reset ∷ back) first (e ∙ simp append-assoc),
       has (front ++ Set i ∷ compile (a + 1) x) back last (e ∙ simp append-assoc),
@@ -132,11 +138,14 @@ compile-holds {code} a (Catch x y) front back l e =
     let unmark : Instruction = Unmark c in
     let lx : length (front ++ mark ∷ []) ≡ a + 1 = simp length-append (omega arith) in
     let lb : length (front ++ mark ∷ compile (a + 1) x) ≡ b = simp (length-append, length-compile) (omega arith) in
-    let ly : length (front ++ mark ∷ compile (a + 1) x ++ unmark ∷ []) ≡ handler = simp (length-append, length-compile) (omega arith) in
+    let ly : length (front ++ mark ∷ compile (a + 1) x ++ unmark ∷ []) ≡ handler =
+    simp (length-append, length-compile) (omega arith) in
     let end : a + (codeLength x + codeLength y + 2) ≡ c = omega arith in
     let start : b + 1 ≡ handler = omega arith in
-    let marked : Has code a (Mark (b + 1)) = rw start (has front (compile (a + 1) x ++ unmark ∷ compile handler y ++ back) l (e ∙ simp append-assoc)) in
-    let unmarked : Has code b (Unmark c) = has (front ++ mark ∷ compile (a + 1) x) (compile handler y ++ back) lb (e ∙ simp append-assoc) in
+    let marked : Has code a (Mark (b + 1)) =
+    rw start (has front (compile (a + 1) x ++ unmark ∷ compile handler y ++ back) l (e ∙ simp append-assoc)) in
+    let unmarked : Has code b (Unmark c) =
+    has (front ++ mark ∷ compile (a + 1) x) (compile handler y ++ back) lb (e ∙ simp append-assoc) in
     let handled : Holds code (b + 1) y c =
     rw start (compile-holds handler y (front ++ mark ∷ compile (a + 1) x ++ unmark ∷ []) back ly (e ∙ simp append-assoc)) in
     rw end

@@ -10,7 +10,8 @@ use mathlib.Core.Bool.{Bool, false}
 use mathlib.Core.List.{List, [], _∷_}
 use mathlib.Core.Path.{refl}
 use Rattle.rules.specs.Demand.{noRecall}
-use Rattle.rules.specs.Evaluation.{Gives, VAL, THROW, ADD1, ADD2, ADD3, SEQN1, SEQN2, CATCH1, CATCH2, BLOCK, UNBLOCK, quietAdd, quietSeqn, quietCatch, quiet}
+use Rattle.rules.specs.Evaluation.{Gives, VAL, THROW, ADD1, ADD2, ADD3, SEQN1, SEQN2, CATCH1}
+use Rattle.rules.specs.Evaluation.{CATCH2, BLOCK, UNBLOCK, quietAdd, quietSeqn, quietCatch, quiet}
 use Rattle.rules.specs.Expression.{Expression, Val, Throw, Add, Seqn, Catch, Block, Unblock}
 use Rattle.rules.specs.declared.Status.{Status}
 use Rattle.rules.specs.declared.Status.the-variants.{Blocked, Unblocked}
@@ -35,18 +36,21 @@ module _ {x y : Expression} {i : Status} where
   unfolding quietAdd bits
   quietly-add (Number n) (Number m) p q =
       record { gives = ADD1 (p .gives) (q .gives); silently = λ rest s. p .silently _ (q .silently _ (silent s)) }
-  quietly-add (Number n) End.Throw p q = record { gives = ADD3 (p .gives) (q .gives); silently = λ rest s. p .silently _ (q .silently _ s) }
+  quietly-add (Number n) End.Throw p q =
+      record { gives = ADD3 (p .gives) (q .gives); silently = λ rest s. p .silently _ (q .silently _ s) }
   quietly-add End.Throw w p q = record { gives = ADD2 (p .gives); silently = λ rest s. p .silently _ s }
 
   quietly-seqn : (v w : End) → Quietly x i v → Quietly y i w → Quietly (Seqn x y) i (quietSeqn v w)
   unfolding quietSeqn bits
-  quietly-seqn (Number n) w p q = record { gives = SEQN1 (p .gives) (q .gives); silently = λ rest s. p .silently _ (silent (q .silently _ s)) }
+  quietly-seqn (Number n) w p q =
+      record { gives = SEQN1 (p .gives) (q .gives); silently = λ rest s. p .silently _ (silent (q .silently _ s)) }
   quietly-seqn End.Throw w p q = record { gives = SEQN2 (p .gives); silently = λ rest s. p .silently _ s }
 
   quietly-catch : (v w : End) → Quietly x i v → Quietly y i w → Quietly (Catch x y) i (quietCatch v w)
   unfolding quietCatch bits
   quietly-catch (Number n) w p q = record { gives = CATCH1 (p .gives); silently = λ rest s. silent (p .silently _ (silent s)) }
-  quietly-catch End.Throw w p q = record { gives = CATCH2 (p .gives) (q .gives); silently = λ rest s. silent (p .silently _ (q .silently _ s)) }
+  quietly-catch End.Throw w p q =
+      record { gives = CATCH2 (p .gives) (q .gives); silently = λ rest s. silent (p .silently _ (q .silently _ s)) }
 
 silent-reset : (v : End) {rest : List Bool} → Silent rest → Silent (resetBits v rest)
 unfolding resetBits

@@ -46,7 +46,8 @@ uses-tested c =
 node-refused : tie.Need-returns-3
 node-refused c =
     let walk = c .before .before .before .before in
-    sym (nodes-refused _ (passed (walk .before .before)) (checked-told _ _ (sym (walk .check-nodes .ensures .answer) ∙ c .before .r .given .1)))
+    let refused = checked-told _ _ (sym (walk .check-nodes .ensures .answer) ∙ c .before .r .given .1) in
+    sym (nodes-refused _ (passed (walk .before .before)) refused)
 
 pub check-spec : {M : Type 1} → statement M
 check-spec =

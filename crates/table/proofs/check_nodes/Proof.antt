@@ -18,8 +18,8 @@ count-requires : tie.Need-count-requires Inv-loop μ-loop
 count-requires c κs =
     let sound = c .before .before .before in
     let at = sound .before .before .before in
-    rw (c .operands-of .ensures)
-    (nodes-room (at .before .loop .inv) (at .loop-test .taken) (sym (sound .before .before .read .ensures) ∙ sound .node .given .1))
+    let read = sym (sound .before .before .read .ensures) ∙ sound .node .given .1 in
+    rw (c .operands-of .ensures) (nodes-room (at .before .loop .inv) (at .loop-test .taken) read)
 
 stopped-length : tie.Need-same-length Inv-loop μ-loop
 stopped-length c =
@@ -29,7 +29,8 @@ stopped-length c =
 stopped : tie.Need-returns Inv-loop μ-loop
 stopped c =
     let at = c .before .before .before .before in
-    nodes-stop (at .before .loop .inv) (at .loop-test .taken) (sym (c .before .before .before .read .ensures) ∙ c .before .r .given .1)
+    nodes-stop (at .before .loop .inv) (at .loop-test .taken)
+    (sym (c .before .before .before .read .ensures) ∙ c .before .r .given .1)
 
 goes-on : tie.Need-loop-again Inv-loop μ-loop
 goes-on c =
@@ -37,7 +38,8 @@ goes-on c =
     let sound = named .before .before .before in
     let at = sound .before .before .before in
     let read = sym (sound .before .before .read .ensures) ∙ sound .node .given .1 in
-    rw (c .before .before .count .ensures, named .operands-of .ensures) (nodes-go-on (at .before .loop .inv) (at .loop-test .taken) read)
+    rw (c .before .before .count .ensures, named .operands-of .ensures)
+    (nodes-go-on (at .before .loop .inv) (at .loop-test .taken) read)
 
 ended-length : tie.Need-same-length-2 Inv-loop μ-loop
 ended-length c = c .before .loop .inv .tally .places ∙ sym (c .before .before .before .before .pre .none .places)

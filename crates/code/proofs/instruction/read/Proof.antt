@@ -55,20 +55,25 @@ module _ (c : tie.After-word) where
   length = start .before .before .before .before .args .length
 
   in-turn : TwoTests (instructionTest code a)
-      (allZero code (recordBytes * a) (1 ∷ 2 ∷ 3 ∷ []) && operandFitsAt opcode (c .word .result)) (record { reason = Field; place = a })
+      (allZero code (recordBytes * a) (1 ∷ 2 ∷ 3 ∷ []) && operandFitsAt opcode (c .word .result))
+      (record { reason = Field; place = a })
       (targetFitsAt opcode (c .word .result) a length) (record { reason = Target; place = a })
-  in-turn = tests code a (start .before .before .byte .ensures .0) (known start) (c .word .ensures) (start .before .before .before .before .pre .1)
+  in-turn =
+      tests code a (start .before .before .byte .ensures .0) (known start) (c .word .ensures)
+      (start .before .before .before .before .pre .1)
 
   zeros : c .before .before .byte2 .result + c .before .half .result ≡ 0 → allZero code (recordBytes * a) (1 ∷ 2 ∷ 3 ∷ []) ≡ true
   zeros = clean code _ (c .before .before .byte2 .ensures .0) (c .before .half .ensures .0)
 
-  stray : (c .before .before .byte2 .result + c .before .half .result ≡ 0 → ⊥) → allZero code (recordBytes * a) (1 ∷ 2 ∷ 3 ∷ []) ≡ false
+  stray : (c .before .before .byte2 .result + c .before .half .result ≡ 0 → ⊥)
+      → allZero code (recordBytes * a) (1 ∷ 2 ∷ 3 ∷ []) ≡ false
   stray = padded code _ (c .before .before .byte2 .ensures .0) (c .before .half .ensures .0)
 
 wrong-field : tie.Need-returns-2
 wrong-field c =
     let at = c .before .before in
-    let wrong : allZero (code at) (recordBytes * a at) (1 ∷ 2 ∷ 3 ∷ []) && operandFitsAt (opcode at) (at .word .result) ≡ false = ⊎-elim
+    let wrong : allZero (code at) (recordBytes * a at) (1 ∷ 2 ∷ 3 ∷ []) && operandFitsAt (opcode at) (at .word .result) ≡ false =
+    ⊎-elim
     (λ way. rw (stray at (way .taken)))
     (λ way. rw (sym (way .1 .ensures) ∙ not-true _ (way .2 .taken), and-false))
     (c .before .if3 .came) in
@@ -80,7 +85,8 @@ right-field : (c : tie.Else4)
     && operandFitsAt (opcode (c .before .before .before)) (c .before .before .before .word .result)
     ≡ true
 right-field c =
-    rw (zeros (c .before .before .before) (c .before .before .if3 .left), sym (c .before .operand-fits .ensures) ∙ not-false _ (c .if4 .left))
+    let fits = sym (c .before .operand-fits .ensures) ∙ not-false _ (c .if4 .left) in
+    rw (zeros (c .before .before .before) (c .before .before .if3 .left), fits)
 
 sound : tie.Need-returns-3
 sound c =

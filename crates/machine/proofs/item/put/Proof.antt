@@ -23,7 +23,8 @@ returns c =
     let item = at-item .item .given in
     let residue = at-residue .residue in
     let fits : SFits w32 (item .0 .0) = record { sfits = at-residue .before .before .known-told .given .0 .1 } in
-    let number : itemTagged 0 (residue .result) ≡ Number (item .0 .0) = rw (residue .ensures, toZ-ofZ fits) (tagged-number fits) in
+    let number : itemTagged 0 (residue .result) ≡ Number (item .0 .0) =
+    rw (residue .ensures, toZ-ofZ fits) (tagged-number fits) in
     stored 0 (residue .result) (pre .room) (pre .place) (residue .ok) (number ∙ sym (item .1)) (c .before .before .put .ensures)
 
 returns-2 : tie.Need-returns-2

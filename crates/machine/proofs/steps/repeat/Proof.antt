@@ -1,4 +1,5 @@
--- `machine::steps::repeat` meets its contract. The invariant of both loops: what is left of the run is the whole of it, from where
+-- `machine::steps::repeat` meets its contract. The invariant of both loops: what is left of the run is the whole of it, from
+-- where
 -- the loop began. The measure is how many steps are left. Assumes nothing.
 use Prim.Native.Nat.{_-_}
 use native.Mathlib.Omega.{arith}
@@ -10,7 +11,7 @@ use Rattle.rules.specs.Limits.{stepLimit}
 use Rattle.rules.specs.Run.{runs}
 use Rattle.rules.specs.Schedule.{asks}
 use Rattle.machine.specs.States.{AtInstruction}
-use Rattle.machine.proofs.Underway.{Underway, GoesOn, rest, begun, joined}
+use Rattle.machine.proofs.Underway.{Underway, GoesOn, rest, underway-here, underway-through}
 use Rattle.machine.proofs.Turns.{whole-run, at-the-length, nothing-to-unwind, an-item-to-unwind, unwound, limit-unwinding}
 use Rattle.machine.proofs.Turns.{at-an-instruction, limit-at-an-instruction, full-at-an-instruction}
 use Rattle.machine.proofs.Turns.{no-rule-at-an-instruction, stepped}
@@ -47,7 +48,8 @@ here c = record { running = c .before .before .run .inv .1; below = c .if1 .left
 -- a step was taken
 on : (c : tie.After-known-told Inv-loop μ-loop Inv-run μ-run) →
     let step = c .before .before .before .before .before in
-    GoesOn (step .before .before .before .before .before .before .run .inv .0) (step .step .last .1 .1 .1 .0) (c .before .next .given .0 .0)
+    GoesOn (step .before .before .before .before .before .before .run .inv .0) (step .step .last .1 .1 .1 .0)
+    (c .before .next .given .0 .0)
 on c =
     let step = c .before .before .before .before .before in
     let left = step .before .before in
@@ -55,23 +57,29 @@ on c =
     let head = below .before .before in
     let s = head .before .before .before .before .before .args in
     let does = rw (c .before .next .given .1) at (step .step .ensures) in
-    stepped (s .code .now) (s .schedule .now) (head .run .inv .0) (here below) (left .if2 .left) (step .step .kept .1 .1 .1 .0) does
+    stepped (s .code .now) (s .schedule .now) (head .run .inv .0) (here below) (left .if2 .left)
+    (step .step .kept .1 .1 .1 .0) does
 
 -- where the machine unwinds, seen from the beginning
 within : (c : tie.At-loop Inv-loop μ-loop Inv-run μ-run) →
     let step = c .before .before .before .before .before .before in
     let new = step .before .before .before .before .before .before .before in
     let s = new .before .before .before .before .args in
-    Underway (instructions (s .code .now)) (asks (s .schedule .now)) (s .stack .now) (step .step .last .1 .1 .1 .0) (new .new .result) (c .loop .machine)
-within c = joined (on (c .before) .1) (c .loop .inv)
+    Underway (instructions (s .code .now)) (asks (s .schedule .now)) (s .stack .now) (step .step .last .1 .1 .1 .0)
+    (new .new .result) (c .loop .machine)
+within c = underway-through (on (c .before) .1) (c .loop .inv)
 
 -- ---- the outer loop
 
 run-holds : tie.Need-run-holds Inv-loop μ-loop Inv-run μ-run
-run-holds c = rw (c .new .ensures) (begun (c .before .before .before .before .args .stack .now) (omega arith) (omega arith) (omega arith), refl)
+run-holds c =
+    rw (c .new .ensures)
+    (underway-here (c .before .before .before .before .args .stack .now) (omega arith) (omega arith) (omega arith), refl)
 
 at-length-requires : tie.Need-at-length-requires Inv-loop μ-loop Inv-run μ-run
-at-length-requires c κs = let head = c .before .before .before in omega (arith, head .before .before .before .before .before .pre .room, head .run .inv .0 .size)
+at-length-requires c κs =
+    let head = c .before .before .before in
+    omega (arith, head .before .before .before .before .before .pre .room, head .run .inv .0 .size)
 
 step-requires : tie.Need-step-requires Inv-loop μ-loop Inv-run μ-run
 step-requires c κs =
@@ -85,20 +93,23 @@ run-less : tie.Need-run-less Inv-loop μ-loop Inv-run μ-run
 run-less c = omega (arith, on (c .before .before) .0, c .before .loop .inv .later, c .before .loop .inv .steps)
 
 run-again : tie.Need-run-again Inv-loop μ-loop Inv-run μ-run
-run-again c = (joined (on (c .before .before) .1) (c .before .loop .inv), c .loop-test .left)
+run-again c = (underway-through (on (c .before .before) .1) (c .before .loop .inv), c .loop-test .left)
 
 -- ---- the inner loop
 
 loop-holds : tie.Need-loop-holds Inv-loop μ-loop Inv-run μ-run
-loop-holds c = let so-far = on c .1 in begun _ (so-far .steps) (so-far .reached) (so-far .height)
+loop-holds c = let so-far = on c .1 in underway-here _ (so-far .steps) (so-far .reached) (so-far .height)
 
 unwind-requires : tie.Need-unwind-requires Inv-loop μ-loop Inv-run μ-run
 unwind-requires c κs =
     let left = c .before in
     let some = left .before .before in
     let turn = some .before .before in
-    let s = turn .before .before .before .before .before .before .before .before .before .before .before .before .before .before .before .before .before .before in
-    an-item-to-unwind (s .args .code .now) (s .args .schedule .now) (within (turn .before)) (turn .loop-test .taken) (some .if3 .left) (left .if4 .left) (s .pre)
+    let s =
+    turn .before .before .before .before .before .before .before .before .before .before .before .before .before .before
+    .before .before .before .before in
+    an-item-to-unwind (s .args .code .now) (s .args .schedule .now) (within (turn .before)) (turn .loop-test .taken)
+    (some .if3 .left) (left .if4 .left) (s .pre)
 
 -- an item was removed
 further : (c : tie.After-unwind Inv-loop μ-loop Inv-run μ-run) →
@@ -108,8 +119,11 @@ further c =
     let left = c .before .before in
     let some = left .before .before in
     let turn = some .before .before in
-    let s = turn .before .before .before .before .before .before .before .before .before .before .before .before .before .before .before .before .before .before .args in
-    unwound (s .code .now) (s .schedule .now) (turn .before .loop .inv) (turn .loop-test .taken) (some .if3 .left) (left .if4 .left) (c .unwind .ensures)
+    let s =
+    turn .before .before .before .before .before .before .before .before .before .before .before .before .before .before
+    .before .before .before .before .args in
+    unwound (s .code .now) (s .schedule .now) (turn .before .loop .inv) (turn .loop-test .taken) (some .if3 .left)
+    (left .if4 .left) (c .unwind .ensures)
 
 loop-less : tie.Need-loop-less Inv-loop μ-loop Inv-run μ-run
 loop-less c = omega (arith, further c .0, further c .1 .steps)
@@ -145,7 +159,10 @@ returns-2 c =
     record { answered = rw (c .refused .ensures) (end ∙ whole (head .before)); beyond = so-far .beyond }
 
 same-length-3 : tie.Need-same-length-3 Inv-loop μ-loop Inv-run μ-run
-same-length-3 c = let full = c .before in let step = full .before .before .before .before in step .step .kept .1 .1 .1 .0 ∙ step .before .before .before .before .before .before .run .inv .0 .size
+same-length-3 c =
+    let full = c .before in
+    let step = full .before .before .before .before in
+    step .step .kept .1 .1 .1 .0 ∙ step .before .before .before .before .before .before .run .inv .0 .size
 
 returns-3 : tie.Need-returns-3 Inv-loop μ-loop Inv-run μ-run
 returns-3 c =
@@ -161,7 +178,9 @@ returns-3 c =
     record { answered = rw (c .refused2 .ensures) (end ∙ whole (head .before)); beyond = does .beyond ∙ so-far .beyond }
 
 same-length-4 : tie.Need-same-length-4 Inv-loop μ-loop Inv-run μ-run
-same-length-4 c = let step = c .before .before .before .before .before in step .step .kept .1 .1 .1 .0 ∙ step .before .before .before .before .before .before .run .inv .0 .size
+same-length-4 c =
+    let step = c .before .before .before .before .before in
+    step .step .kept .1 .1 .1 .0 ∙ step .before .before .before .before .before .before .run .inv .0 .size
 
 returns-4 : tie.Need-returns-4 Inv-loop μ-loop Inv-run μ-run
 returns-4 c =
@@ -198,7 +217,8 @@ returns-6 c =
     let head = turn .before .before .before .before .before .before .before .before .before .before .before .before .before in
     let s = head .before .before .before .before .before .args in
     let so-far = within (turn .before) in
-    let end = limit-unwinding (s .code .now) (s .schedule .now) so-far (turn .loop-test .taken) (some .if3 .left) (limit .if4 .taken) in
+    let end =
+    limit-unwinding (s .code .now) (s .schedule .now) so-far (turn .loop-test .taken) (some .if3 .left) (limit .if4 .taken) in
     record { answered = rw (c .refused4 .ensures) (end ∙ whole (head .before)); beyond = so-far .beyond }
 
 pub repeat-spec : {M : Type 1} → statement M

@@ -54,7 +54,8 @@ stray c =
 
 -- what `below` answers is test 4
 tested : (c : tie.After-below)
-    → allBelow (j (c .before .before .before .before .before)) (operandsOf (nodeAt (table (c .before .before .before .before .before)) (j (c .before .before .before .before .before))))
+    → allBelow (j (c .before .before .before .before .before))
+    (operandsOf (nodeAt (table (c .before .before .before .before .before)) (j (c .before .before .before .before .before))))
     ≡ c .below .result
 tested c =
     let start = c .before .before .before .before .before in
@@ -66,14 +67,15 @@ sound : tie.Need-returns-3
 sound c =
     let at = c .before .before .before in
     let clean = sym (at .before .before .unused .ensures) ∙ eq-eqb _ _ (at .before .if3 .left) in
-    rw (at .at .ensures) (sym (both-pass Refused _ (in-turn (at .before .before .before)) clean (tested (c .before) ∙ c .if4 .taken)))
+    rw (at .at .ensures)
+    (sym (both-pass Refused _ (in-turn (at .before .before .before)) clean (tested (c .before) ∙ c .if4 .taken)))
 
 not-below : tie.Need-returns-4
 not-below c =
     let at = c .before .before .before .before in
     let clean = sym (at .before .before .unused .ensures) ∙ eq-eqb _ _ (at .before .if3 .left) in
-    c .refused3 .ensures
-    ∙ sym (second-refuses Refused _ (in-turn (at .before .before .before)) clean (tested (c .before .before) ∙ c .before .if4 .left))
+    let wrong = tested (c .before .before) ∙ c .before .if4 .left in
+    c .refused3 .ensures ∙ sym (second-refuses Refused _ (in-turn (at .before .before .before)) clean wrong)
 
 pub read-spec : {M : Type 1} → statement M
 read-spec =

@@ -1,59 +1,61 @@
 -- `table::node::unused` meets its contract, kind by kind. Assumes nothing.
+use Prim.Native.Nat.{ℕ, _+_}
 use borrow.Author.Needs.{needs}
-use Rattle.rules.specs.Bytes.{rowNumbered}
+use lib.Dec.{eqb}
+use mathlib.Core.List.{List, [], _∷_}
+use mathlib.Core.Path.{_≡_}
+use Rattle.rules.specs.Bytes.{rowNumbered, allZero}
 use Rattle.rules.specs.Table.{kinds}
 use Rattle.rules.proofs.Lists.{row-none-of}
 use Rattle.table.proofs.NodeKinds.{unused-val, unused-throw, unused-pair, unused-scope}
 use Rattle.table.proofs.node.unused.Statement.{statement}
 use Rattle.table.proofs.node.unused.Tie as tie
 
-val : tie.Need-returns
-unfolding kinds rowNumbered
-val c =
-    rw (c .before .before .before .before .byte .ensures .0, c .before .before .before .half .ensures .0, c .match .keys1)
-    (unused-val _ _)
+-- the fields that were read
+module _ (c : tie.After-half3) where
+  abbrev table : List ℕ
+  table = c .before .before .before .before .before .args .table .now
 
-throw : tie.Need-returns-2
-unfolding kinds rowNumbered
-throw c =
-    rw (
-      c .before .before .before .before .byte .ensures .0,
-      c .before .before .before .half .ensures .0,
-      c .before .before .half2 .ensures .0,
-      c .before .half3 .ensures .0,
-      c .match .keys2,
-    )
-    (unused-throw _ _)
+  abbrev base : ℕ
+  base = c .before .before .before .before .before .args .base
 
-add : tie.Need-returns-3
-unfolding kinds rowNumbered
-add c = rw (c .before .before .before .before .byte .ensures .0, c .before .half3 .ensures .0, c .match .keys3) (unused-pair _ _)
+  abbrev second : ℕ
+  second = c .before .before .before .byte .result
 
-seqn : tie.Need-returns-4
-unfolding kinds rowNumbered
-seqn c = rw (c .before .before .before .before .byte .ensures .0, c .before .half3 .ensures .0, c .match .keys4) (unused-pair _ _)
+  abbrev left : ℕ
+  left = c .before .before .half .result
 
-catch : tie.Need-returns-5
-unfolding kinds rowNumbered
-catch c = rw (c .before .before .before .before .byte .ensures .0, c .before .half3 .ensures .0, c .match .keys5) (unused-pair _ _)
+  abbrev right : ℕ
+  right = c .before .half2 .result
 
-block : tie.Need-returns-6
-unfolding kinds rowNumbered
-block c =
-    rw (c .before .before .before .before .byte .ensures .0, c .before .before .half2 .ensures .0, c .before .half3 .ensures .0, c .match .keys6)
-    (unused-scope _ _)
+  abbrev last : ℕ
+  last = c .half3 .result
 
-unblock : tie.Need-returns-7
-unfolding kinds rowNumbered
-unblock c =
-    rw (c .before .before .before .before .byte .ensures .0, c .before .before .half2 .ensures .0, c .before .half3 .ensures .0, c .match .keys7)
-    (unused-scope _ _)
+  abbrev Law : ℕ → List ℕ → Type 0
+  Law sum zeros = eqb sum 0 ≡ allZero table base zeros
 
-no-kind : tie.Need-returns-8
-unfolding kinds
-no-kind c = rw (row-none-of kinds _ (c .match .rest))
+  val : Law (second + left) (1 ∷ 2 ∷ 3 ∷ [])
+  val =
+      unused-val _ _ (c .before .before .before .byte .ensures .0) (c .before .before .half .ensures .0)
+      (c .before .half2 .ensures .0) (c .half3 .ensures .0)
+
+  throw : Law (second + left + right + last) (1 ∷ 2 ∷ 3 ∷ 4 ∷ 5 ∷ 6 ∷ 7 ∷ [])
+  throw =
+      unused-throw _ _ (c .before .before .before .byte .ensures .0) (c .before .before .half .ensures .0)
+      (c .before .half2 .ensures .0) (c .half3 .ensures .0)
+
+  pair : Law (second + last) (1 ∷ 6 ∷ 7 ∷ [])
+  pair =
+      unused-pair _ _ (c .before .before .before .byte .ensures .0) (c .before .before .half .ensures .0)
+      (c .before .half2 .ensures .0) (c .half3 .ensures .0)
+
+  scope : Law (second + right + last) (1 ∷ 4 ∷ 5 ∷ 6 ∷ 7 ∷ [])
+  scope =
+      unused-scope _ _ (c .before .before .before .byte .ensures .0) (c .before .before .half .ensures .0)
+      (c .before .half2 .ensures .0) (c .half3 .ensures .0)
 
 pub unused-spec : {M : Type 1} → statement M
+unfolding kinds rowNumbered
 unused-spec =
     tie.close
     (tie.spec
@@ -61,11 +63,11 @@ unused-spec =
     (λ c κs. search needs) (λ c. search needs) (λ c κs. search needs) (λ c. search needs) (λ c. search needs)
     (λ c. search needs) (λ c. search needs) (λ c. search needs) (λ c. search needs) (λ c. search needs) (λ c. search needs)
     (λ c. search needs) (λ c. search needs) (λ c. search needs)
-    val
-    throw
-    add
-    seqn
-    catch
-    block
-    unblock
-    no-kind)
+    (λ c. rw (c .match .keys1) (val (c .before)))
+    (λ c. rw (c .match .keys2) (throw (c .before)))
+    (λ c. rw (c .match .keys3) (pair (c .before)))
+    (λ c. rw (c .match .keys4) (pair (c .before)))
+    (λ c. rw (c .match .keys5) (pair (c .before)))
+    (λ c. rw (c .match .keys6) (scope (c .before)))
+    (λ c. rw (c .match .keys7) (scope (c .before)))
+    (λ c. rw (row-none-of kinds _ (c .match .rest))))

@@ -19,10 +19,12 @@ use Rattle.machine.proofs.state.Machine.step.Tie as tie
 returns : tie.Need-returns
 returns c =
     let s = c .before .before .before .before .before .before in
-    rw (c .onward .ensures) (cut (s .pre) (s .args .schedule .now) (sym (c .before .if1 .taken) ∙ c .before .before .strikes .ensures))
+    rw (c .onward .ensures)
+    (cut (s .pre) (s .args .schedule .now) (sym (c .before .if1 .taken) ∙ c .before .before .strikes .ensures))
 
 -- what is done by the instruction's rule is done by the step's
-carried : (c : tie.After-at) {x : Instruction} {r : Step} {after : List ℕ} → let s = c .before .before .before .before .before .before .args in c .at .result ≡ x
+carried : (c : tie.After-at) {x : Instruction} {r : Step} {after : List ℕ}
+    → let s = c .before .before .before .before .before .before .args in c .at .result ≡ x
     → Carries x (s .stack .now) (s .self) r after → Steps (s .code .now) (s .schedule .now) (s .stack .now) (s .self) r after
 carried c told does =
     let s = c .before .before .before .before .before .before in
@@ -42,7 +44,8 @@ push-requires-2 c κs =
 
 push-requires-3 : tie.Need-push-requires-3
 unfolding handlerOf
-push-requires-3 c κs = (c .before .before .before .before .before .before .before .before .before .before .pre .ready, omega arith)
+push-requires-3 c κs =
+    (c .before .before .before .before .before .before .before .before .before .before .pre .ready, omega arith)
 
 returns-2 : tie.Need-returns-2
 unfolding execute
@@ -60,24 +63,36 @@ returns-3 c =
     rw (c .onward2 .ensures) (carried read (told .enum-told .given .1) (thrown (s .stack .now) (s .self)))
 
 returns-4 : tie.Need-returns-4
-returns-4 c = let told = c .before .before .before .before in carried (told .before .before) (told .enum-told2 .given .1) (c .before .before .add .ensures)
+returns-4 c =
+    let told = c .before .before .before .before in
+    carried (told .before .before) (told .enum-told2 .given .1) (c .before .before .add .ensures)
 
 returns-5 : tie.Need-returns-5
-returns-5 c = let told = c .before .before .before .before in carried (told .before .before) (told .enum-told3 .given .1) (c .before .before .pop .ensures)
+returns-5 c =
+    let told = c .before .before .before .before in
+    carried (told .before .before) (told .enum-told3 .given .1) (c .before .before .pop .ensures)
 
 returns-6 : tie.Need-returns-6
 unfolding execute
-returns-6 c = let told = c .before .before .before .before .before in carried (told .before .before) (told .target .given .1) (c .before .before .push2 .ensures)
+returns-6 c =
+    let told = c .before .before .before .before .before in
+    carried (told .before .before) (told .target .given .1) (c .before .before .push2 .ensures)
 
 returns-7 : tie.Need-returns-7
-returns-7 c = let told = c .before .before .before .before .before in carried (told .before .before) (told .target2 .given .1) (c .before .before .unmark .ensures)
+returns-7 c =
+    let told = c .before .before .before .before .before in
+    carried (told .before .before) (told .target2 .given .1) (c .before .before .unmark .ensures)
 
 returns-8 : tie.Need-returns-8
 unfolding execute
-returns-8 c = let told = c .before .before .before .before .before in carried (told .before .before) (told .status .given .1) (c .before .before .push3 .ensures)
+returns-8 c =
+    let told = c .before .before .before .before .before in
+    carried (told .before .before) (told .status .given .1) (c .before .before .push3 .ensures)
 
 returns-9 : tie.Need-returns-9
-returns-9 c = let told = c .before .before .before .before in carried (told .before .before) (told .enum-told4 .given .1) (c .before .before .reset .ensures)
+returns-9 c =
+    let told = c .before .before .before .before in
+    carried (told .before .before) (told .enum-told4 .given .1) (c .before .before .reset .ensures)
 
 pub step-spec : {M : Type 1} → statement M
 step-spec =

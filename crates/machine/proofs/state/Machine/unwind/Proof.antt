@@ -9,19 +9,22 @@ returns : tie.Need-returns
 returns c =
     let s = c .before .before .before .before .before .before .args in
     let top = sym (c .before .enum-told .given .1) ∙ c .before .before .before .at .ensures in
-    rw (c .unwound .ensures) (number-dropped (s .stack .now) (s .self) (c .before .before .before .before .before .before .pre .some) top)
+    rw (c .unwound .ensures)
+    (number-dropped (s .stack .now) (s .self) (c .before .before .before .before .before .before .pre .some) top)
 
 returns-2 : tie.Need-returns-2
 returns-2 c =
     let s = c .before .before .before .before .before .before .before .args in
     let top = sym (c .before .before .address .given .1) ∙ c .before .before .before .before .at .ensures in
-    rw (c .unwound2 .ensures) (handler-entered (s .stack .now) (s .self) (c .before .before .before .before .before .before .before .pre .some) top)
+    rw (c .unwound2 .ensures)
+    (handler-entered (s .stack .now) (s .self) (c .before .before .before .before .before .before .before .pre .some) top)
 
 returns-3 : tie.Need-returns-3
 returns-3 c =
     let s = c .before .before .before .before .before .before .before .args in
     let top = sym (c .before .before .status .given .1) ∙ c .before .before .before .before .at .ensures in
-    rw (c .unwound3 .ensures) (status-restored (s .stack .now) (s .self) (c .before .before .before .before .before .before .before .pre .some) top)
+    rw (c .unwound3 .ensures)
+    (status-restored (s .stack .now) (s .self) (c .before .before .before .before .before .before .before .pre .some) top)
 
 pub unwind-spec : {M : Type 1} → statement M
 unwind-spec =
