@@ -43,7 +43,8 @@ module _ {table : List ℕ} {j t : ℕ} {node : Node} (here : (j ≡ t) × Accep
 -- ---- the answer
 
 module _ (table : List ℕ) where
-  pub accepted-ends : {n : ℕ} → checkAnswer tableTests table ≡ Accepted n → Ended (quiet (expressionAt table (n - 1))) ≡ evaluateAnswer table
+  pub accepted-ends : {n : ℕ} → checkAnswer tableTests table ≡ Accepted n
+      → Ended (quiet (expressionAt table (n - 1))) ≡ evaluateAnswer table
   accepted-ends e = rw (evaluate-passed table (check-accepted tableTests table e .0), last-recipe table e)
 
   pub refused-answers : {r : Refusal} → checkAnswer tableTests table ≡ Refused r → Outcome.Refused r ≡ evaluateAnswer table
