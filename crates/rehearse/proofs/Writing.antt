@@ -1,6 +1,5 @@
 -- The laws of text put into the line (`specs/Written.antt`).
 --
---   written-as     a text that is another one is written as that one
 --   also-written   where a text is written after another, both are
 --   counts         the place after a text that is written at the front counts its bytes
 --
@@ -12,10 +11,6 @@ use mathlib.Core.List.{List, _++_, append-assoc}
 use mathlib.Core.Path.{_≡_, ap, _∙_}
 use Rattle.io.specs.Counts.{Counts}
 use Rattle.rehearse.specs.Written.{Written}
-
-pub written-as : {line after text other : List ℕ} {at next : ℕ} → text ≡ other → Written line at text after next
-    → Written line at other after next
-written-as e written = rw e at written
 
 pub also-written : {line middle after text more : List ℕ} {at next last : ℕ}
     → Written line at text middle next → Written middle next more after last → Written line at (text ++ more) after last

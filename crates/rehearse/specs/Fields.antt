@@ -8,7 +8,7 @@ use mathlib.Core.List.{List}
 use Rattle.rules.specs.Line.{numberLine, throwLine, refusedLine}
 use Rattle.salnegris.specs.declared.AnswerFields.{AnswerFields}
 
-unfoldable pub lineOfKind : ℕ → AnswerFields → List ℕ
+abbrev pub lineOfKind : ℕ → AnswerFields → List ℕ
 lineOfKind zero a = numberLine (a .number) (a .steps) (a .reached)
 lineOfKind (suc zero) a = throwLine (a .steps) (a .reached)
 lineOfKind (suc (suc n)) a = refusedLine (a .refusal) (a .place)

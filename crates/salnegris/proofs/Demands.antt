@@ -159,7 +159,7 @@ module _ (table buffer : List ℕ) (i : Status) (stack : List ℕ) where
 -- Refusal 6 is only for a buffer of less than 8,184 bytes.
 pub room-enough : (table buffer : List ℕ) → firstRefusal (tableTests table) ≡ none → codeLimit ≤ length buffer
     → compiled table buffer .refusal ≡ 0
-unfolding compiledFields compiledRefusal
+unfolding compiledRefusal
 room-enough table buffer tests room = rw (compile-passed table buffer (enough table buffer tests room) .0)
 
 -- Of a table that compiling accepted into some buffer.
@@ -175,8 +175,7 @@ pub record Relied (table buffer : List ℕ) : Type 0 where
 -- ---- proofs
 
 pub demand-1 : Demand1
-unfolding compiledFields compiledLength compiledRefusal compiledPlace
-    answerFields outcomeKind outcomeNumber outcomeRefusal outcomePlace
+unfolding compiledLength compiledRefusal compiledPlace outcomeKind outcomeNumber outcomeRefusal outcomePlace
 demand-1 = record {
   compile-refuses = λ table buffer e. let (answer, leaves) = compile-refused table buffer e in (rw answer, leaves);
   run-refuses = λ status code schedule stack e.
@@ -186,34 +185,24 @@ demand-1 = record {
   run-inside = run-inside;
 }
 
-module _ (table buffer : List ℕ) where
-  -- "accepted" is what the worker sees: no refusal
-  all-passed : compiled table buffer .refusal ≡ 0 → Passes table buffer
-  unfolding compiledFields
-  all-passed accepted = passes table buffer accepted
-
-  code-made : Passes table buffer → codeIn table buffer ≡ bytesOf (codeOf table)
-  unfolding compiledFields
-  code-made all = code-left all
-
 pub demand-2 : Demand2
-unfolding codeOf compiledFields compiledRefusal
+unfolding codeOf compiledRefusal
 demand-2 = record {
   acceptance = λ table buffer.
-      ((λ accepted. all-passed table buffer accepted .tests), λ e. rw (compile-passed table buffer e .0));
-  code = λ table buffer accepted. let all = all-passed table buffer accepted in (code-made table buffer all, later-left all);
+      ((λ accepted. passes table buffer accepted .tests), λ e. rw (compile-passed table buffer e .0));
+  code = λ table buffer accepted. let all = passes table buffer accepted in (code-left all, later-left all);
   run = λ status code schedule stack e. ap answerFields (run-passed status code schedule stack e .0);
 }
 
 -- the end of a run, and its fields
 
 ended : (v : End) (a : Answer) → a .outcome ≡ Ended v → EndsIn v (answerFields a)
-unfolding EndsIn answerFields outcomeKind outcomeNumber
+unfolding EndsIn outcomeKind outcomeNumber
 ended (Number k) a e = rw e (refl, refl)
 ended Throw a e = rw e
 
 ends-once : (v w : End) (a : Answer) → a .outcome ≡ Ended w → EndsIn v (answerFields a) → w ≡ v
-unfolding EndsIn answerFields outcomeKind outcomeNumber
+unfolding EndsIn outcomeKind outcomeNumber
 ends-once (Number k) (Number m) a e (kind, number) = ap Number (rw e at number)
 ends-once (Number k) Throw a e (kind, number) = absurd (omega (arith, rw e at kind))
 ends-once Throw (Number m) a e kind = absurd (omega (arith, rw e at kind))
@@ -222,12 +211,12 @@ ends-once Throw Throw a e kind = refl
 module _ (table buffer : List ℕ) (accepted : compiled table buffer .refusal ≡ 0)
     (i : Status) (stack : List ℕ) (room : stackBytes ≤ length stack) where
   all : Passes table buffer
-  all = all-passed table buffer accepted
+  all = passes table buffer accepted
 
   -- the run of the bytes is the run that the theory speaks of
   answered : (schedule : List ℕ)
       → runAnswer (statusNumber i) (codeIn table buffer) schedule stack ≡ ofExpression (recipe table) (asks schedule) i
-  answered schedule = rw (code-made table buffer all) (compiled-run all i stack room schedule)
+  answered schedule = rw (code-left all) (compiled-run all i stack room schedule)
 
   ends : (schedule : List ℕ) → Ends (recipe table) i (runAnswer (statusNumber i) (codeIn table buffer) schedule stack)
   ends schedule = rw (answered schedule) (recipe-demand all i .ends (asks schedule))
@@ -248,7 +237,7 @@ module _ (table buffer : List ℕ) (accepted : compiled table buffer .refusal �
       )
 
   pub demand-3 : Demand3 table buffer i stack
-  unfolding mostSteps answerFields
+  unfolding mostSteps
   demand-3 = record {
     exactly = λ v. (
       (λ met.
@@ -265,14 +254,13 @@ module _ (table buffer : List ℕ) (accepted : compiled table buffer .refusal �
 
 module _ (table buffer : List ℕ) (accepted : compiled table buffer .refusal ≡ 0) where
   tests-passed : Passes table buffer
-  tests-passed = all-passed table buffer accepted
+  tests-passed = passes table buffer accepted
 
   pub relied : Relied table buffer
-  unfolding compiledFields answerFields
   relied = record {
     short = omega (arith, code-length tests-passed, recipe-short (table-accepted tests-passed));
     code-never-refused = λ status schedule stack.
-        rw (code-made table buffer tests-passed) (code-never-refused tests-passed status schedule stack);
+        rw (code-left tests-passed) (code-never-refused tests-passed status schedule stack);
     quietly = λ i stack room.
         rw (answered table buffer accepted i stack room [], asks-nothing)
         (recipe-demand tests-passed i .quietly ∙ sym (evaluate-passed table (table-passes tests-passed)));

@@ -13,10 +13,10 @@ use Rattle.rules.specs.declared.Answer.{Answer}
 use Rattle.salnegris.specs.declared.CompiledFields.{CompiledFields}
 use Rattle.salnegris.specs.declared.AnswerFields.{AnswerFields}
 
-unfoldable pub compiledFields : Compiled → CompiledFields
+abbrev pub compiledFields : Compiled → CompiledFields
 compiledFields c = record { length = compiledLength c; refusal = compiledRefusal c; place = compiledPlace c }
 
-unfoldable pub answerFields : Answer → AnswerFields
+abbrev pub answerFields : Answer → AnswerFields
 answerFields a = record {
   kind = outcomeKind (a .outcome);
   number = outcomeNumber (a .outcome);

@@ -8,7 +8,6 @@ use lib.Seq.{length-take-le}
 use mathlib.Core.Path.{_≡_, sym}
 use Rattle.rules.specs.Answers.{compiledRefusal}
 use Rattle.rules.specs.Limits.{recordBytes}
-use Rattle.salnegris.specs.Fields.{compiledFields}
 use Rattle.rehearse.proofs.Fields.{fields-line}
 use Rattle.rehearse.proofs.Tables.{compiled, line-refused, rehearse-accepted, code-fits}
 use Rattle.rehearse.proofs.rehearsal.of_table.Statement.{statement}
@@ -16,18 +15,15 @@ use Rattle.rehearse.proofs.rehearsal.of_table.Tie as tie
 
 accepted : (c : tie.Else1)
     → compiledRefusal (compiled (c .before .before .before .before .before .before .before .before .args .table .now)) ≡ 0
-unfolding compiledFields
 accepted c = rw (c .before .before .before .salnegris-compile .ensures .0) at (c .if1 .left)
 
 within : (c : tie.Else1) → let made = c .before .before .before .salnegris-compile in
     recordBytes * made .result .length ≤ length (made .last .1 .0)
-unfolding compiledFields
 within c =
     let made = c .before .before .before .salnegris-compile in
     rw (made .ensures .0) (omega (arith, code-fits _ (accepted c), made .kept .1 .0))
 
 refused : tie.Need-returns
-unfolding compiledFields
 refused c =
     let tested = c .before .before .before .before in
     let made = tested .before .before .before in
@@ -37,7 +33,6 @@ refused c =
     rw (answer, line) at (c .before .before .refused .ensures)
 
 run : tie.Need-returns-2
-unfolding compiledFields
 run c =
     let ran = c .before .before .before .before .before in
     let tested = ran .before .before .before .before in

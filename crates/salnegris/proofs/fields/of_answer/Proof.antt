@@ -2,12 +2,11 @@
 use borrow.Author.Needs.{needs}
 use mir.Facts.{toZ-ofZ}
 use Rattle.rules.specs.Answers.{outcomeKind, outcomeNumber, outcomeRefusal, outcomePlace}
-use Rattle.salnegris.specs.Fields.{answerFields}
 use Rattle.salnegris.proofs.fields.of_answer.Statement.{statement}
 use Rattle.salnegris.proofs.fields.of_answer.Tie as tie
 
 pub of-answer-spec : {M : Type 1} → statement M
-unfolding answerFields outcomeKind outcomeNumber outcomeRefusal outcomePlace
+unfolding outcomeKind outcomeNumber outcomeRefusal outcomePlace
 of-answer-spec =
     tie.close (tie.spec
     (search needs) (search needs) (search needs) (search needs) (search needs) (search needs) (search needs)

@@ -1,12 +1,11 @@
 -- `salnegris::fields::of_compiled` meets its contract. Assumes nothing.
 use borrow.Author.Needs.{needs}
 use Rattle.rules.specs.Answers.{compiledLength, compiledRefusal, compiledPlace}
-use Rattle.salnegris.specs.Fields.{compiledFields}
 use Rattle.salnegris.proofs.fields.of_compiled.Statement.{statement}
 use Rattle.salnegris.proofs.fields.of_compiled.Tie as tie
 
 pub of-compiled-spec : {M : Type 1} → statement M
-unfolding compiledFields compiledLength compiledRefusal compiledPlace
+unfolding compiledLength compiledRefusal compiledPlace
 of-compiled-spec =
     tie.close (tie.spec
     (search needs) (λ c. record { fits = rw (c .before .compiled .given .1) at (c .before .before .before .pre .length) })
