@@ -1,8 +1,9 @@
 -- `record::number::sum` meets its contract: the wrapped sum of two residues is the residue of the sum. Assumes nothing.
 use borrow.Author.Needs.{needs}
+use mathlib.Core.Path.{ap, sym}
 use mir.Syntax.{w32}
 use mir.Facts.{toZ-ofZ}
-use Rattle.rules.specs.Number.{sum}
+use Rattle.rules.specs.Number.{signed, sum}
 use Rattle.record.proofs.Signed.{residue-sum}
 use Rattle.record.proofs.number.sum.Statement.{statement}
 use Rattle.record.proofs.number.sum.Tie as tie
@@ -20,5 +21,5 @@ sum-spec =
       c .before .before .residue2 .ensures,
       toZ-ofZ (start .fits .n),
       toZ-ofZ (start .fits .m),
-      residue-sum,
-    )))
+    )
+    (ap signed (sym (residue-sum (start .args .n) (start .args .m))))))
