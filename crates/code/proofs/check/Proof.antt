@@ -60,13 +60,13 @@ check-spec =
     (tie.spec
     Inv-loop
     μ-loop
-    (λ c κs. search needs)
+    (search needs)
     wrong-size
     (λ c. walk-begins _ _)
     read-requires
-    (λ c. search needs)
+    (search needs)
     stopped
-    (λ c. search needs) (λ c. omega arith)
+    (search needs) (λ c. omega arith)
     (λ c. omega (arith, c .before .before .before .loop-test .taken))
     goes-on
     ended)

@@ -53,12 +53,12 @@ pub check-spec : {M : Type 1} → statement M
 check-spec =
     tie.close
     (tie.spec
-    (λ c κs. search needs)
+    (search needs)
     wrong-size
-    (λ c. search needs)
+    (search needs)
     check-nodes-requires
-    (λ c. search needs) (λ c. search needs)
+    (search needs) (search needs)
     check-requires
-    (λ c. search needs)
+    (search needs)
     uses-tested
     node-refused)

@@ -52,9 +52,9 @@ check-nodes-spec =
     μ-loop
     (λ c. nodes-begin (c .before .before .pre))
     (λ c κs. omega (arith, c .before .before .before .before .pre .size))
-    (λ c. search needs) (λ c κs. search needs)
+    (search needs) (search needs)
     count-requires
-    (λ c. search needs)
+    (search needs)
     stopped-length
     stopped
     (λ c. omega arith)

@@ -39,8 +39,8 @@ unfolding opcodes rowNumbered
 at-spec =
     tie.close
     (tie.spec
-    (λ c. search needs) (λ c. search needs) (λ c κs. search needs) (λ c κs. search needs) (λ c κs. search needs)
-    (λ c. search needs) (λ c. search needs) (λ c κs. search needs)
+    (search needs) (search needs) (search needs) (search needs) (search needs)
+    (search needs) (search needs) (search needs)
     pushed
     (λ c. (coded (c .before) (c .match .keys2) refl, omega arith))
     (λ c. (coded (c .before) (c .match .keys3) refl, omega arith))

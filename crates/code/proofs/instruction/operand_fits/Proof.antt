@@ -11,4 +11,4 @@ unfolding opcodes
 returns c = operand-fits _ (search needs) (row-known opcodes _ (c .pre .0) (c .pre .1))
 
 pub operand-fits-spec : {M : Type 1} → statement M
-operand-fits-spec = tie.close (tie.spec (λ c. search needs) (λ c. search needs) returns)
+operand-fits-spec = tie.close (tie.spec (search needs) (search needs) returns)

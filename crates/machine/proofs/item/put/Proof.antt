@@ -58,14 +58,13 @@ pub put-spec : {M : Type 1} → statement M
 put-spec =
     tie.close
     (tie.spec
-    (λ c. search needs) (λ c. search needs) (λ c κs. search needs) (λ c κs. search needs) (λ c. search needs)
+    (search needs) (search needs) (search needs) (search needs) (search needs)
     cast-put
-    (λ c κs. search needs) (λ c. search needs) (λ c. search needs) (λ c κs. search needs) (λ c. search needs)
-    (λ c κs. search needs) (λ c. search needs)
+    (search needs) (search needs) (search needs) (search needs) (search needs) (search needs) (search needs)
     returns
-    (λ c. search needs)
+    (search needs)
     returns-2
-    (λ c. search needs)
+    (search needs)
     returns-3
-    (λ c. search needs)
+    (search needs)
     returns-4)

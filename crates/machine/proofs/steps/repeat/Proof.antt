@@ -229,16 +229,16 @@ repeat-spec =
     μ-loop
     Inv-run
     μ-run
-    (λ c κs. search needs)
+    (search needs)
     run-holds
     at-length-requires
-    (λ c κs. search needs)
+    (search needs)
     step-requires
-    (λ c. search needs) (λ c. search needs) (λ c κs. search needs) (λ c. search needs) (λ c κs. search needs)
+    (search needs) (search needs) (search needs) (search needs) (search needs)
     loop-holds
     run-less
     run-again
-    (λ c κs. search needs)
+    (search needs)
     unwind-requires
     loop-less
     loop-again

@@ -43,8 +43,8 @@ unfolding kinds rowNumbered
 at-spec =
     tie.close
     (tie.spec
-    (λ c. search needs) (λ c. search needs) (λ c κs. search needs) (λ c. search needs) (λ c κs. search needs)
-    (λ c κs. search needs) (λ c. search needs) (λ c κs. search needs) (λ c κs. search needs)
+    (search needs) (search needs) (search needs) (search needs) (search needs)
+    (search needs) (search needs) (search needs) (search needs)
     val
     (λ c. kinded (c .before) (c .match .keys2) refl)
     (λ c. kinded (c .before) (c .match .keys3) refl)

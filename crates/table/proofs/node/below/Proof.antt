@@ -13,7 +13,7 @@ pub below-spec : {M : Type 1} → statement M
 below-spec =
     tie.close
     (tie.spec
-    (λ c. search needs) (λ c. search needs) (λ c. search needs)
+    (search needs) (search needs) (search needs)
     none
     (λ c. rw (c .before .operands .given .1) (below-one _ _))
     (λ c. rw (c .before .before .operands2 .given .1) (below-two _ _ _ (c .if1 .taken)))

@@ -7,10 +7,9 @@ pub operands-of-spec : {M : Type 1} → statement M
 operands-of-spec =
     tie.close
     (tie.spec
-    (λ c. search needs) (λ c. search needs) (λ c. search needs) (λ c. search needs) (λ c. search needs) (λ c. search needs)
-    (λ c. search needs)
-    (λ c. search needs)
-    (λ c. search needs)
+    (search needs) (search needs) (search needs) (search needs) (search needs) (search needs) (search needs)
+    (λ c. rw (c .enum-told .given .1))
+    (λ c. rw (c .enum-told2 .given .1))
     (λ c. rw (c .before .node .given .1))
     (λ c. rw (c .before .node2 .given .1))
     (λ c. rw (c .before .node3 .given .1))

@@ -81,10 +81,10 @@ pub read-spec : {M : Type 1} → statement M
 read-spec =
     tie.close
     (tie.spec
-    (λ c. search needs) (λ c κs. search needs) (λ c κs. search needs)
+    (search needs) (search needs) (search needs)
     unknown
-    (λ c. search needs) (λ c κs. search needs) (λ c κs. search needs)
+    (search needs) (search needs) (search needs)
     stray
-    (λ c κs. search needs) (λ c κs. search needs) (λ c κs. search needs) (λ c κs. search needs)
+    (search needs) (search needs) (search needs) (search needs)
     sound
     not-below)

@@ -32,13 +32,13 @@ unfolding counted
 count-spec =
     tie.close
     (tie.spec
-    (λ c. search needs) (λ c. search needs)
+    (search needs) (search needs)
     one-requires
-    (λ c. search needs)
+    (search needs)
     left-requires
     right-requires
     (λ c. rw (c .enum-told .given .1))
-    (λ c. search needs)
+    (search needs)
     one-counted
-    (λ c. search needs)
+    (search needs)
     both-counted)

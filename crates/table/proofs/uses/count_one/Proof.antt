@@ -26,4 +26,4 @@ returns c = refl
 pub count-one-spec : {M : Type 1} → statement M
 count-one-spec =
     tie.close
-    (tie.spec mul-counts slice-read-counts add-counts slice-write-counts (λ c. search needs) returns)
+    (tie.spec mul-counts slice-read-counts add-counts slice-write-counts (search needs) returns)

@@ -65,11 +65,11 @@ add-spec =
     tie.close
     (tie.spec
     returns
-    (λ c. search needs) (λ c κs. search needs) (λ c. search needs) (λ c. search needs)
+    (search needs) (search needs) (search needs) (search needs)
     returns-2
-    (λ c κs. search needs) (λ c. search needs) (λ c. search needs)
+    (search needs) (search needs) (search needs)
     returns-3
-    (λ c κs. search needs)
+    (search needs)
     put-requires
-    (λ c. search needs) (λ c. search needs) (λ c κs. search needs) (λ c. search needs)
+    (search needs) (search needs) (search needs) (search needs)
     returns-4)

@@ -25,4 +25,4 @@ returns-3 : tie.Need-returns-3
 returns-3 c = let s = c .before .before .before .args in not-one (s .stack .now) (s .self) (c .if1 .left)
 
 pub at-length-spec : {M : Type 1} → statement M
-at-length-spec = tie.close (tie.spec (λ c κs. search needs) (λ c. search needs) returns returns-2 returns-3)
+at-length-spec = tie.close (tie.spec (search needs) (search needs) returns returns-2 returns-3)

@@ -36,7 +36,7 @@ pop-spec =
     tie.close
     (tie.spec
     returns
-    (λ c. search needs) (λ c κs. search needs) (λ c. search needs) (λ c. search needs)
+    (search needs) (search needs) (search needs) (search needs)
     returns-2
-    (λ c. search needs) (λ c. search needs) (λ c κs. search needs) (λ c. search needs)
+    (search needs) (search needs) (search needs) (search needs)
     returns-3)

@@ -26,5 +26,5 @@ push-spec =
     tie.close
     (tie.spec
     returns
-    (λ c κs. search needs) (λ c. search needs) (λ c. search needs) (λ c κs. search needs) (λ c. search needs)
+    (search needs) (search needs) (search needs) (search needs) (search needs)
     returns-2)

@@ -98,27 +98,26 @@ pub step-spec : {M : Type 1} → statement M
 step-spec =
     tie.close
     (tie.spec
-    (λ c κs. search needs) (λ c κs. search needs)
+    (search needs) (search needs)
     returns
-    (λ c κs. search needs) (λ c. search needs)
+    (search needs) (search needs)
     push-requires
-    (λ c. search needs) (λ c κs. search needs) (λ c. search needs) (λ c κs. search needs) (λ c. search needs)
-    (λ c κs. search needs) (λ c. search needs)
+    (search needs) (search needs) (search needs) (search needs) (search needs) (search needs) (search needs)
     push-requires-2
-    (λ c. search needs) (λ c κs. search needs) (λ c. search needs)
+    (search needs) (search needs) (search needs)
     push-requires-3
-    (λ c. search needs) (λ c κs. search needs) (λ c. search needs)
+    (search needs) (search needs) (search needs)
     returns-2
     returns-3
-    (λ c. search needs)
+    (search needs)
     returns-4
-    (λ c. search needs)
+    (search needs)
     returns-5
-    (λ c. search needs)
+    (search needs)
     returns-6
-    (λ c. search needs)
+    (search needs)
     returns-7
-    (λ c. search needs)
+    (search needs)
     returns-8
-    (λ c. search needs)
+    (search needs)
     returns-9)

@@ -66,10 +66,10 @@ unmark-spec =
     tie.close
     (tie.spec
     returns
-    (λ c. search needs) (λ c κs. search needs) (λ c. search needs) (λ c. search needs)
+    (search needs) (search needs) (search needs) (search needs)
     returns-2
-    (λ c κs. search needs) (λ c. search needs) (λ c. search needs)
+    (search needs) (search needs) (search needs)
     returns-3
     put-requires
-    (λ c. search needs) (λ c κs. search needs) (λ c. search needs)
+    (search needs) (search needs) (search needs)
     returns-4)
