@@ -1,3 +1,11 @@
+-- What the proof of the rehearsal's line rests on.
+--
+--   Decimal   the digits of a number
+--   Integer   a signed number by its 32 bits
+--   Writing   text put into the line
+--   Fields    the line of an answer, by its fields
+--   Tables    what a rehearsal comes to, by what compiling answers
+--   Inputs    the line of an input, by its length
 pub mod Decimal
 pub mod Fields
 pub mod Inputs
