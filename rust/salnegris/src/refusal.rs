@@ -29,9 +29,9 @@ pub enum Reason {
     CodeSize = 9,
     /// An opcode that is not 1 to 8.
     Opcode = 10,
-    /// Byte 1, 2 or 3, or an operand where there is none, is not zero, or a SET is of neither 0 nor 1.
+    /// Bytes 1 to 3 or an absent operand are not zero, or a SET is not of 0 or 1.
     Field = 11,
-    /// The target of a MARK or UNMARK is not above its own address, or is above the length.
+    /// A MARK's or UNMARK's target is not above its own address, or is above the length.
     Target = 12,
     /// A push onto 512 items.
     StackFull = 13,
@@ -85,8 +85,8 @@ impl Reason {
             Reason::StackBuffer => (Place::Whole, "the stack buffer is below 4,096 bytes"),
             Reason::CodeSize => (Place::Whole, "the code has no bytes, more than 8,184, or not a multiple of 8"),
             Reason::Opcode => (Place::Address, "an opcode that is not 1 to 8"),
-            Reason::Field => (Place::Address, "byte 1, 2 or 3, or an operand where there is none, is not zero, or a SET is of neither 0 nor 1"),
-            Reason::Target => (Place::Address, "the target of a MARK or UNMARK is not above its own address, or is above the length"),
+            Reason::Field => (Place::Address, "bytes 1 to 3 or an absent operand are not zero, or a SET is not of 0 or 1"),
+            Reason::Target => (Place::Address, "a MARK's or UNMARK's target is not above its own address, or is above the length"),
             Reason::StackFull => (Place::Address, "a push onto 512 items"),
             Reason::NoRule => (Place::Address, "no rule for the instruction, or at the length without exactly one number"),
             Reason::Steps => (Place::Whole, "1,535 steps taken and not ended"),
