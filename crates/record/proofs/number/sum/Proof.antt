@@ -19,7 +19,5 @@ sum-spec =
       c .before .wrapping-add-u32 .ensures,
       c .before .before .before .residue .ensures,
       c .before .before .residue2 .ensures,
-      toZ-ofZ (start .fits .n),
-      toZ-ofZ (start .fits .m),
     )
-    (ap signed (sym (residue-sum (start .args .n) (start .args .m))))))
+    (simp (toZ-ofZ (start .fits .n), toZ-ofZ (start .fits .m)) (ap signed (sym (residue-sum (start .args .n) (start .args .m)))))))
