@@ -29,7 +29,7 @@ pub(crate) fn read(table: &[u8], j: usize) -> Reading
         return refused(Reason::UnusedByte, j);
     }
     let node = at(table, j);
-    if below(operands_of(node), j) {
+    if below(node, j) {
         Reading::Sound(node)
     } else {
         refused(Reason::Operand, j)
@@ -105,10 +105,10 @@ pub(crate) fn operands_of(node: Node) -> Operands
 }
 
 // "An operand is a node number below the node that names it."
-fn below(operands: Operands, j: usize) -> bool
-    ensures { λ r. ⌜ r ≡ allBelow j (named operands) ⌝ }
+fn below(node: Node, j: usize) -> bool
+    ensures { λ r. ⌜ r ≡ allBelow j (operandsOf node) ⌝ }
 {
-    match operands {
+    match operands_of(node) {
         Operands::None => true,
         Operands::One(k) => k < j,
         Operands::Two(left, right) => left < j && right < j,

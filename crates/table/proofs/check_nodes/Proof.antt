@@ -16,10 +16,9 @@ abbrev μ-loop : tie.MeasureT-loop
 
 count-requires : tie.Need-count-requires Inv-loop μ-loop
 count-requires c κs =
-    let sound = c .before .before .before in
+    let sound = c .before .before in
     let at = sound .before .before .before in
-    let read = sym (sound .before .before .read .ensures) ∙ sound .node .given .1 in
-    rw (c .operands-of .ensures) (nodes-room (at .before .loop .inv) (at .loop-test .taken) read)
+    nodes-room (at .before .loop .inv) (at .loop-test .taken) (sym (sound .before .before .read .ensures) ∙ sound .node .given .1)
 
 stopped-length : tie.Need-same-length Inv-loop μ-loop
 stopped-length c =
@@ -34,12 +33,10 @@ stopped c =
 
 goes-on : tie.Need-loop-again Inv-loop μ-loop
 goes-on c =
-    let named = c .before .before .before in
-    let sound = named .before .before .before in
+    let sound = c .before .before .before .before .before in
     let at = sound .before .before .before in
     let read = sym (sound .before .before .read .ensures) ∙ sound .node .given .1 in
-    rw (c .before .before .count .ensures, named .operands-of .ensures)
-    (nodes-go-on (at .before .loop .inv) (at .loop-test .taken) read)
+    rw (c .before .before .count .ensures) (nodes-go-on (at .before .loop .inv) (at .loop-test .taken) read)
 
 ended-length : tie.Need-same-length-2 Inv-loop μ-loop
 ended-length c = c .before .loop .inv .tally .places ∙ sym (c .before .before .before .before .pre .none .places)
@@ -52,13 +49,13 @@ check-nodes-spec =
     μ-loop
     (λ c. nodes-begin (c .before .before .pre))
     (λ c κs. omega (arith, c .before .before .before .before .pre .size))
-    (search needs) (search needs)
+    (search needs)
     count-requires
     (search needs)
     stopped-length
     stopped
     (λ c. omega arith)
-    (λ c. omega (arith, c .before .before .before .before .before .before .before .before .before .loop-test .taken))
+    (λ c. omega (arith, c .before .before .before .before .before .before .before .before .loop-test .taken))
     goes-on
     ended-length
     (λ c. nodes-end (c .before .loop .inv) (c .loop-test .left)))

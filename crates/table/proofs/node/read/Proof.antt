@@ -53,26 +53,21 @@ stray c =
     c .refused2 .ensures ∙ sym (first-refuses Refused _ (in-turn at) wrong)
 
 -- what `below` answers is test 4
-tested : (c : tie.After-below)
-    → allBelow (j (c .before .before .before .before .before))
-    (operandsOf (nodeAt (table (c .before .before .before .before .before)) (j (c .before .before .before .before .before))))
-    ≡ c .below .result
+tested : (c : tie.After-below) → let start = c .before .before .before .before in
+    allBelow (j start) (operandsOf (nodeAt (table start) (j start))) ≡ c .below .result
 tested c =
-    let start = c .before .before .before .before .before in
-    ap (λ node. allBelow (j start) (operandsOf node)) (sym (c .before .before .at .ensures))
-    ∙ ap (allBelow (j start)) (sym (c .before .operands-of .ensures))
-    ∙ sym (c .below .ensures)
+    let start = c .before .before .before .before in
+    ap (λ node. allBelow (j start) (operandsOf node)) (sym (c .before .at .ensures)) ∙ sym (c .below .ensures)
 
 sound : tie.Need-returns-3
 sound c =
-    let at = c .before .before .before in
+    let at = c .before .before in
     let clean = sym (at .before .before .unused .ensures) ∙ eq-eqb _ _ (at .before .if3 .left) in
-    rw (at .at .ensures)
-    (sym (both-pass Refused _ (in-turn (at .before .before .before)) clean (tested (c .before) ∙ c .if4 .taken)))
+    rw (at .at .ensures) (sym (both-pass Refused _ (in-turn (at .before .before .before)) clean (tested (c .before) ∙ c .if4 .taken)))
 
 not-below : tie.Need-returns-4
 not-below c =
-    let at = c .before .before .before .before in
+    let at = c .before .before .before in
     let clean = sym (at .before .before .unused .ensures) ∙ eq-eqb _ _ (at .before .if3 .left) in
     let wrong = tested (c .before .before) ∙ c .before .if4 .left in
     c .refused3 .ensures ∙ sym (second-refuses Refused _ (in-turn (at .before .before .before)) clean wrong)
@@ -85,6 +80,6 @@ read-spec =
     unknown
     (search needs) (search needs) (search needs)
     stray
-    (search needs) (search needs) (search needs) (search needs)
+    (search needs) (search needs) (search needs)
     sound
     not-below)
