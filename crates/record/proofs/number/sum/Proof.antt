@@ -20,4 +20,5 @@ sum-spec =
       c .before .before .before .residue .ensures,
       c .before .before .residue2 .ensures,
     )
-    (simp (toZ-ofZ (start .fits .n), toZ-ofZ (start .fits .m)) (ap signed (sym (residue-sum (start .args .n) (start .args .m)))))))
+    (simp (toZ-ofZ (start .fits .n), toZ-ofZ (start .fits .m))
+    (ap signed (sym (residue-sum (start .args .n) (start .args .m)))))))

@@ -63,7 +63,8 @@ sound : tie.Need-returns-3
 sound c =
     let at = c .before .before in
     let clean = sym (at .before .before .unused .ensures) ∙ eq-eqb _ _ (at .before .if3 .left) in
-    rw (at .at .ensures) (sym (both-pass Refused _ (in-turn (at .before .before .before)) clean (tested (c .before) ∙ c .if4 .taken)))
+    let right = tested (c .before) ∙ c .if4 .taken in
+    rw (at .at .ensures) (sym (both-pass Refused _ (in-turn (at .before .before .before)) clean right))
 
 not-below : tie.Need-returns-4
 not-below c =
