@@ -1,5 +1,5 @@
 -- `code::instruction::at` meets its contract, opcode by opcode. Assumes nothing.
-use Prim.Native.Nat.{ℕ, _<_}
+use Prim.Native.Nat.{ℕ}
 use native.Mathlib.Omega.{arith}
 use borrow.Author.Needs.{needs}
 use mathlib.Core.Option.{some}
