@@ -22,7 +22,7 @@ pub(crate) fn outcome(outcome: Outcome) {
         Outcome::Refused(refusal) => {
             let reason = refusal.reason;
             refused(
-                record::reason::number_of(reason) as u64,
+                numbers::reason::number_of(reason) as u64,
                 refusal.place as u64,
             );
         }
@@ -39,7 +39,7 @@ pub(crate) fn refused(refusal: u64, place: u64) {
 // A lane count, by its 32 bits: from 2^31 on they stand for 2^32 less (document 01, "What a recipe may end in").
 pub(crate) fn number(n: i32) {
     text(b"number ");
-    let bits = record::number::residue(n) as u64;
+    let bits = numbers::lanes::residue(n) as u64;
     if bits < 2147483648 {
         count(bits);
     } else {

@@ -52,13 +52,13 @@ pub fn at(code: &[u8], a: usize) -> Instruction
     let base = 8 * a;
     let operand = record::field::word(code, base + 4);
     match record::field::byte(code, base) {
-        1 => Instruction::Push(record::number::signed(operand)),
+        1 => Instruction::Push(numbers::lanes::signed(operand)),
         2 => Instruction::Throw,
         3 => Instruction::Add,
         4 => Instruction::Pop,
         5 => Instruction::Mark(operand as usize),
         6 => Instruction::Unmark(operand as usize),
-        7 => Instruction::Set(record::status::of_number(operand)),
+        7 => Instruction::Set(numbers::status::of_number(operand)),
         8 => Instruction::Reset,
         _ => Instruction::Throw,
     }

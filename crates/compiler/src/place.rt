@@ -10,7 +10,7 @@ pub(crate) fn place(code: &mut [u8], at: usize, instruction: Instruction)
 {
     let base = 8 * at;
     match instruction {
-        Instruction::Push(n) => record::field::put(code, base, 1, record::number::residue(n)),
+        Instruction::Push(n) => record::field::put(code, base, 1, numbers::lanes::residue(n)),
         Instruction::Throw => record::field::put(code, base, 2, 0),
         Instruction::Add => record::field::put(code, base, 3, 0),
         Instruction::Pop => record::field::put(code, base, 4, 0),
@@ -20,7 +20,7 @@ pub(crate) fn place(code: &mut [u8], at: usize, instruction: Instruction)
             code,
             base,
             7,
-            record::status::number_of(status),
+            numbers::status::number_of(status),
         ),
         Instruction::Reset => record::field::put(code, base, 8, 0),
     }

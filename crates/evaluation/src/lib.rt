@@ -35,7 +35,7 @@ fn end_of(table: &[u8], j: usize) -> End
             let End::Number(m) = end_of(table, right) else {
                 return End::Throw;
             };
-            End::Number(record::number::sum(n, m))
+            End::Number(numbers::lanes::sum(n, m))
         }
         Node::Seqn(left, right) => match end_of(table, left) {
             End::Number(_) => end_of(table, right),

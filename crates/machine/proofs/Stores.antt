@@ -30,7 +30,7 @@ use Rattle.rules.specs.declared.Item.{Item}
 use Rattle.rules.specs.declared.Item.the-variants.{Number}
 use Rattle.rules.proofs.Bytes.Records.{word-whole}
 use Rattle.rules.proofs.Stores.{sets-below, sets-at, drop-sets}
-use Rattle.record.proofs.Signed.{signed-toZ, residue-ofZ}
+use Rattle.numbers.proofs.Signed.{signed-toZ, residue-ofZ}
 use Rattle.machine.specs.Items.{itemTagged, itemAt, itemsOf, Stored}
 
 -- ---- a record at place k

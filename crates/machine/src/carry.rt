@@ -40,7 +40,7 @@ impl Machine {
         let Item::Number(n) = item::at(stack, height - 2) else {
             return Step::NoRule;
         };
-        item::put(stack, height - 2, Item::Number(record::number::sum(n, m)));
+        item::put(stack, height - 2, Item::Number(numbers::lanes::sum(n, m)));
         Step::Next(self.onward(false, self.address + 1, status, height - 1))
     }
 

@@ -16,7 +16,7 @@ pub(crate) fn at(stack: &[u8], k: usize) -> Item
     let base = 8 * k;
     let operand = record::field::word(stack, base + 4);
     match record::field::byte(stack, base) {
-        0 => Item::Number(record::number::signed(operand)),
+        0 => Item::Number(numbers::lanes::signed(operand)),
         1 => Item::Handler(operand as usize),
         2 => Item::Saved(Status::Blocked),
         _ => Item::Saved(Status::Unblocked),
@@ -30,7 +30,7 @@ pub(crate) fn put(stack: &mut [u8], k: usize, item: Item)
 {
     let base = 8 * k;
     match item {
-        Item::Number(n) => record::field::put(stack, base, 0, record::number::residue(n)),
+        Item::Number(n) => record::field::put(stack, base, 0, numbers::lanes::residue(n)),
         Item::Handler(target) => record::field::put(stack, base, 1, target as u32),
         Item::Saved(status) => match status {
             Status::Blocked => record::field::put(stack, base, 2, 0),

@@ -39,7 +39,7 @@ pub fn run(status: u8, code: &[u8], schedule: &[u8], stack: &mut [u8]) -> Answer
     match code::check(code) {
         Checked::Accepted(_) => {
             let answer = steps::repeat(
-                record::status::of_number(status as u32),
+                numbers::status::of_number(status as u32),
                 code,
                 schedule,
                 stack,

@@ -1,9 +1,5 @@
-// Records of eight bytes in lent bytes, lane counts in 32 bits, schedule bits, and the numbers of statuses and refusals: the
-// leaves on which all other crates stand.
+// Lent bytes: the fields of 8-byte records, the size of a run of them, and a schedule's bits.
 
 pub mod field;
-pub mod number;
-pub mod reason;
 pub mod schedule;
 pub mod size;
-pub mod status;

@@ -35,7 +35,7 @@ pub(crate) fn integer(n: i32, line: &mut [u8], at: usize) -> usize
     ensures { λ r. ⌜ Written (now (line .entry)) at (Line.integer n) (now (line .exit)) r ⌝ }
     ensures { λ r. ⌜ r ≤ at + 11 ⌝ }
 {
-    let bits = record::number::residue(n);
+    let bits = numbers::lanes::residue(n);
     if bits < 2147483648 {
         decimal(bits, line, at)
     } else {

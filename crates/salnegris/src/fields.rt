@@ -21,7 +21,7 @@ pub(crate) fn of_compiled(compiled: Compiled) -> CompiledFields
         },
         Compiled::Refused(refusal) => {
             let reason = refusal.reason;
-            let number = record::reason::number_of(reason);
+            let number = numbers::reason::number_of(reason);
             CompiledFields {
                 length: 0,
                 refusal: number,
@@ -59,7 +59,7 @@ pub(crate) fn of_answer(answer: Answer) -> AnswerFields
         },
         Outcome::Refused(r) => {
             let reason = r.reason;
-            let refusal = record::reason::number_of(reason);
+            let refusal = numbers::reason::number_of(reason);
             AnswerFields {
                 kind: 2,
                 number: 0,

@@ -2,8 +2,9 @@
 --
 --   reads-unknown   a number that is no kind
 --   tests           the tests of a node whose kind is known, one after the other
---   told, node-told
---                   what an answer says of the tests, and which node it has
+--   operands-named  what is named is the node's operands
+--   told, operands-told
+--                   what an answer says of the tests, and which nodes it names
 --   passed-below    where the tests pass, the operands lie below
 --   below-one, below-two, below-first
 --                   test 4 on one operand, on the second of two, and on the first where it fails
@@ -21,17 +22,28 @@ use Rattle.rules.specs.Limits.{recordBytes}
 use Rattle.rules.specs.Refusals.{unless, firstRefusal}
 use Rattle.rules.specs.Table.{KindRow, kinds, kindAt, nodeAt, operandsOf, allBelow, nodeTest}
 use Rattle.rules.specs.declared.Node.{Node}
+use Rattle.rules.specs.declared.Node.the-variants.{Val, Throw, Add, Seqn, Catch, Block, Unblock}
 use Rattle.rules.specs.declared.Reason.the-variants.{Kind, UnusedByte, Operand}
 use Rattle.rules.specs.declared.Refusal.{Refusal}
 use Rattle.rules.proofs.Checking.{answer-passed, answer-refused, answer-told, TwoTests, row-passes}
 use Rattle.rules.proofs.Lists.{RowKnown}
 use Rattle.rules.proofs.Refusals.{refused-not-passed, first-none, unless-passed}
-use Rattle.table.specs.Reading.{readingAt, unusedZero}
+use Rattle.table.specs.Reading.{named, asOperands, operandsAt, readingAt, unusedZero}
+use Rattle.table.specs.declared.node.Operands.{Operands}
 use Rattle.table.specs.declared.node.Reading.{Reading}
 use Rattle.table.specs.declared.node.Reading.the-variants.{Sound, Refused}
 use Rattle.table.proofs.NodeKinds.{node-of-kind}
 
 -- ---- operands
+
+pub operands-named : (node : Node) → named (asOperands (operandsOf node)) ≡ operandsOf node
+operands-named (Val n) = refl
+operands-named Throw = refl
+operands-named (Add left right) = refl
+operands-named (Seqn left right) = refl
+operands-named (Catch left right) = refl
+operands-named (Block left) = refl
+operands-named (Unblock left) = refl
 
 module _ (k j : ℕ) where
   pub below-one : ltb k j ≡ allBelow j (k ∷ [])
@@ -68,7 +80,7 @@ module _ (table : List ℕ) (j : ℕ) where
     kind-at e = rw (← read) e
 
     pub reads-unknown : rowNumbered kinds kind ≡ none → readingAt table j ≡ Refused (record { reason = Kind; place = j })
-    reads-unknown missing = answer-refused Refused (Sound (nodeAt table j)) (no-kind (kind-at missing))
+    reads-unknown missing = answer-refused Refused (Sound (operandsAt table j)) (no-kind (kind-at missing))
 
     pub tests : RowKnown kinds kind
         → TwoTests (nodeTest table j)
@@ -93,11 +105,13 @@ module _ (table : List ℕ) (j : ℕ) where
   -- ---- what an answer says
 
   abbrev pub refusalOf : Reading → Option Refusal
-  refusalOf (Sound node) = none
+  refusalOf (Sound operands) = none
   refusalOf (Refused r) = some r
 
   pub told : {answer : Reading} → readingAt table j ≡ answer → nodeTest table j ≡ refusalOf answer
-  told = answer-told refusalOf Refused (Sound (nodeAt table j)) (nodeTest table j) refl (λ r. refl)
+  told = answer-told refusalOf Refused (Sound (operandsAt table j)) (nodeTest table j) refl (λ r. refl)
 
-  pub node-told : {node : Node} → readingAt table j ≡ Sound node → nodeAt table j ≡ node
-  node-told e = cc (answer-passed Refused (Sound (nodeAt table j)) (told e), e)
+  pub operands-told : {operands : Operands} → readingAt table j ≡ Sound operands → operandsOf (nodeAt table j) ≡ named operands
+  operands-told e =
+      let same : Sound (operandsAt table j) ≡ Sound _ = sym (answer-passed Refused (Sound (operandsAt table j)) (told e)) ∙ e in
+      sym (operands-named (nodeAt table j)) ∙ cc same

@@ -11,17 +11,17 @@ use native.Mathlib.Omega.{arith}
 use mathlib.Core.List.{List}
 use mathlib.Core.Path.{_≡_, sym, _∙_}
 use Rattle.rules.specs.Limits.{nodeLimit}
-use Rattle.rules.specs.Table.{operandsOf, nodeTest}
+use Rattle.rules.specs.Table.{nodeTest}
 use Rattle.rules.specs.declared.Checked.the-variants.{Accepted, Refused}
-use Rattle.rules.specs.declared.Node.{Node}
 use Rattle.rules.specs.declared.Refusal.{Refusal}
 use Rattle.rules.proofs.Checking.{answer-passed, answer-refused, Walked, walk-begins, walk-goes-on, walk-stops, walk-ends}
 use Rattle.rules.proofs.Refusals.{refused-not-passed}
 use Rattle.table.specs.Counts.{counted, Room, CountsUses, Countable, NodesChecked}
-use Rattle.table.specs.Reading.{readingAt}
+use Rattle.table.specs.Reading.{named, readingAt}
+use Rattle.table.specs.declared.node.Operands.{Operands}
 use Rattle.table.specs.declared.node.Reading.{Reading}
 use Rattle.table.specs.declared.node.Reading.the-variants.{Sound}
-use Rattle.table.proofs.Reading.{told, node-told, passed-below}
+use Rattle.table.proofs.Reading.{told, operands-told, passed-below}
 use Rattle.table.proofs.Tally.{node-room, node-counted}
 
 pub record NodesWalked (table : List ℕ) (n : ℕ) (counts : List ℕ) (j : ℕ) : Type 0 where
@@ -33,18 +33,18 @@ pub nodes-begin : {table : List ℕ} {n : ℕ} {counts : List ℕ} → Countable
 nodes-begin start = record { few = start .few; walked = walk-begins _ _; tally = start .none }
 
 module _ {table : List ℕ} {n : ℕ} {counts : List ℕ} {j : ℕ} (so-far : NodesWalked table n counts j) where
-  module _ (h : j < n) {node : Node} (read : readingAt table j ≡ Sound node) where
-    pub nodes-room : Room counts (operandsOf node)
+  module _ (h : j < n) {operands : Operands} (read : readingAt table j ≡ Sound operands) where
+    pub nodes-room : Room counts (named operands)
     nodes-room =
-        rw (node-told table j read) at
+        rw (operands-told table j read) at
         (node-room (so-far .tally) (passed-below table j (told table j read)) (omega (arith, so-far .few)))
 
-    pub nodes-go-on : NodesWalked table n (counted counts (operandsOf node)) (j + 1)
+    pub nodes-go-on : NodesWalked table n (counted counts (named operands)) (j + 1)
     nodes-go-on = record {
       few = so-far .few;
       walked = walk-goes-on (so-far .walked) h (told table j read);
       tally =
-          rw (node-told table j read) at
+          rw (operands-told table j read) at
           (node-counted (so-far .tally) (passed-below table j (told table j read)) (omega (arith, so-far .few)));
     }
 

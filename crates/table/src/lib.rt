@@ -43,7 +43,7 @@ fn check_nodes(table: &[u8], nodes: usize, counts: &mut [u16]) -> Checked
     let mut j: usize = 0;
     while j < nodes {
         match node::read(table, j) {
-            Reading::Sound(node) => uses::count(counts, node),
+            Reading::Sound(operands) => uses::count(counts, operands),
             Reading::Refused(r) => return Checked::Refused(r),
         }
         j += 1;

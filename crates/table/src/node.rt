@@ -7,12 +7,19 @@ ghost use mathlib.Core.Path.{_≡_};
 ghost use Prim.Native.Nat.{_+_, _*_, _<_};
 ghost use lib.Dec.{eqb};
 ghost use lib.ListN.{length};
-ghost use Rattle.rules.specs.Table.{nodeAt, operandsOf, allBelow};
-ghost use Rattle.table.specs.Reading.{readingAt, unusedZero, named};
+ghost use Rattle.rules.specs.Table.{nodeAt, allBelow};
+ghost use Rattle.table.specs.Reading.{readingAt, operandsAt, unusedZero, named};
 
-// What reading a node answers: the node, or the refusal.
+// The nodes that a node names: none, one or two.
+pub enum Operands {
+    None,
+    One(usize),
+    Two(usize, usize),
+}
+
+// What reading a node with its tests answers: what it names, which is all that the tests of a table ask, or the refusal.
 pub enum Reading {
-    Sound(Node),
+    Sound(Operands),
     Refused(Refusal),
 }
 
@@ -28,9 +35,9 @@ pub(crate) fn read(table: &[u8], j: usize) -> Reading
     if unused(table, 8 * j, kind) != 0 {
         return refused(Reason::UnusedByte, j);
     }
-    let node = at(table, j);
-    if below(node, j) {
-        Reading::Sound(node)
+    let operands = operands_at(table, j);
+    if below(operands, j) {
+        Reading::Sound(operands)
     } else {
         refused(Reason::Operand, j)
     }
@@ -51,7 +58,7 @@ pub fn at(table: &[u8], j: usize) -> Node
     let left = record::field::half(table, base + 2);
     let right = record::field::half(table, base + 4);
     match record::field::byte(table, base) {
-        1 => Node::Val(record::number::signed(record::field::word(table, base + 4))),
+        1 => Node::Val(numbers::lanes::signed(record::field::word(table, base + 4))),
         2 => Node::Throw,
         3 => Node::Add(left, right),
         4 => Node::Seqn(left, right),
@@ -83,32 +90,31 @@ fn unused(table: &[u8], base: usize, kind: usize) -> usize
     }
 }
 
-// The nodes that a node names: none, one or two.
-pub enum Operands {
-    None,
-    One(usize),
-    Two(usize, usize),
-}
-
-pub(crate) fn operands_of(node: Node) -> Operands
-    ensures { λ r. ⌜ named r ≡ operandsOf node ⌝ }
+// Kinds 3 to 5 name two nodes, 6 and 7 one.
+fn operands_at(table: &[u8], j: usize) -> Operands
+    requires { ⌜ 8 * j + 7 < length (now table) ⌝ }
+    ensures { λ r. ⌜ r ≡ operandsAt (now (table .entry)) j ⌝ }
 {
-    match node {
-        Node::Val(_) => Operands::None,
-        Node::Throw => Operands::None,
-        Node::Add(left, right) => Operands::Two(left, right),
-        Node::Seqn(left, right) => Operands::Two(left, right),
-        Node::Catch(left, right) => Operands::Two(left, right),
-        Node::Block(left) => Operands::One(left),
-        Node::Unblock(left) => Operands::One(left),
+    let base = 8 * j;
+    let left = record::field::half(table, base + 2);
+    let right = record::field::half(table, base + 4);
+    match record::field::byte(table, base) {
+        1 => Operands::None,
+        2 => Operands::None,
+        3 => Operands::Two(left, right),
+        4 => Operands::Two(left, right),
+        5 => Operands::Two(left, right),
+        6 => Operands::One(left),
+        7 => Operands::One(left),
+        _ => Operands::None,
     }
 }
 
 // "An operand is a node number below the node that names it."
-fn below(node: Node, j: usize) -> bool
-    ensures { λ r. ⌜ r ≡ allBelow j (operandsOf node) ⌝ }
+fn below(operands: Operands, j: usize) -> bool
+    ensures { λ r. ⌜ r ≡ allBelow j (named operands) ⌝ }
 {
-    match operands_of(node) {
+    match operands {
         Operands::None => true,
         Operands::One(k) => k < j,
         Operands::Two(left, right) => left < j && right < j,

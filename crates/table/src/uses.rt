@@ -1,9 +1,7 @@
 // How often each node is an operand, counted in a lent array, and test 5 on the counts (document 01, "The recipe table").
 
 use super::node::Operands;
-use super::node::operands_of;
 use rules::Checked;
-use rules::Node;
 use rules::Reason;
 use rules::Refusal;
 ghost use mathlib.Core.Path.{_≡_};
@@ -12,15 +10,15 @@ ghost use mathlib.Core.List.{[], _∷_};
 ghost use lib.ListN.{length};
 ghost use Rattle.rules.specs.Checking.{checkedBy};
 ghost use Rattle.rules.specs.Refusals.{lowestRefusal};
-ghost use Rattle.rules.specs.Table.{operandsOf};
 ghost use Rattle.table.specs.Counts.{countTest, counted, Room};
+ghost use Rattle.table.specs.Reading.{named};
 
-// Each operand of the node is used once more.
-pub(crate) fn count(counts: &mut [u16], node: Node)
-    requires { ⌜ Room (now counts) (operandsOf node) ⌝ }
-    ensures { λ _. ⌜ now (counts .exit) ≡ counted (now (counts .entry)) (operandsOf node) ⌝ }
+// Each node that is named is used once more.
+pub(crate) fn count(counts: &mut [u16], operands: Operands)
+    requires { ⌜ Room (now counts) (named operands) ⌝ }
+    ensures { λ _. ⌜ now (counts .exit) ≡ counted (now (counts .entry)) (named operands) ⌝ }
 {
-    match operands_of(node) {
+    match operands {
         Operands::None => {}
         Operands::One(k) => count_one(counts, k),
         Operands::Two(left, right) => {

@@ -12,7 +12,7 @@ use Rattle.rules.specs.Evaluation.{quiet, quietAdd, quietSeqn, quietCatch}
 use Rattle.rules.specs.Recipe.{ofNode}
 use Rattle.rules.specs.Table.{operandsOf}
 use Rattle.rules.specs.declared.Node.{Node}
-use Rattle.record.proofs.number.sum.Reads as sum-reads
+use Rattle.numbers.proofs.lanes.sum.Reads as sum-reads
 use Rattle.table.specs.Acceptance.{AcceptedNode, Says}
 use Rattle.table.proofs.Acceptance.{record-inside, says}
 use Rattle.table.proofs.node.at.Reads as at-reads

@@ -18,7 +18,7 @@ count-requires : tie.Need-count-requires Inv-loop μ-loop
 count-requires c κs =
     let sound = c .before .before in
     let at = sound .before .before .before in
-    nodes-room (at .before .loop .inv) (at .loop-test .taken) (sym (sound .before .before .read .ensures) ∙ sound .node .given .1)
+    nodes-room (at .before .loop .inv) (at .loop-test .taken) (sym (sound .before .before .read .ensures) ∙ sound .operands .given .1)
 
 stopped-length : tie.Need-same-length Inv-loop μ-loop
 stopped-length c =
@@ -35,7 +35,7 @@ goes-on : tie.Need-loop-again Inv-loop μ-loop
 goes-on c =
     let sound = c .before .before .before .before .before in
     let at = sound .before .before .before in
-    let read = sym (sound .before .before .read .ensures) ∙ sound .node .given .1 in
+    let read = sym (sound .before .before .read .ensures) ∙ sound .operands .given .1 in
     rw (c .before .before .count .ensures) (nodes-go-on (at .before .loop .inv) (at .loop-test .taken) read)
 
 ended-length : tie.Need-same-length-2 Inv-loop μ-loop

@@ -11,9 +11,9 @@ use Rattle.rules.specs.Table.{kinds, nodeAt, operandsOf, allBelow, nodeTest}
 use Rattle.rules.specs.declared.Reason.the-variants.{UnusedByte, Operand}
 use Rattle.rules.proofs.Checking.{TwoTests, first-refuses, second-refuses, both-pass}
 use Rattle.rules.proofs.Lists.{RowKnown, row-known, row-unknown}
-use Rattle.table.specs.Reading.{unusedZero}
+use Rattle.table.specs.Reading.{named, unusedZero}
 use Rattle.table.specs.declared.node.Reading.the-variants.{Refused}
-use Rattle.table.proofs.Reading.{reads-unknown, tests}
+use Rattle.table.proofs.Reading.{operands-named, reads-unknown, tests}
 use Rattle.table.proofs.node.read.Statement.{statement}
 use Rattle.table.proofs.node.read.Tie as tie
 
@@ -56,14 +56,15 @@ tested : (c : tie.After-below) → let start = c .before .before .before .before
     allBelow (j start) (operandsOf (nodeAt (table start) (j start))) ≡ c .below .result
 tested c =
     let start = c .before .before .before .before in
-    ap (λ node. allBelow (j start) (operandsOf node)) (sym (c .before .at .ensures)) ∙ sym (c .below .ensures)
+    ap (allBelow (j start)) (sym (operands-named (nodeAt (table start) (j start))) ∙ ap named (sym (c .before .operands-at .ensures)))
+    ∙ sym (c .below .ensures)
 
 sound : tie.Need-returns-3
 sound c =
     let at = c .before .before in
     let clean = sym (at .before .before .unused .ensures) ∙ eq-eqb _ _ (at .before .if3 .left) in
     let right = tested (c .before) ∙ c .if4 .taken in
-    rw (at .at .ensures) (sym (both-pass Refused _ (in-turn (at .before .before .before)) clean right))
+    rw (at .operands-at .ensures) (sym (both-pass Refused _ (in-turn (at .before .before .before)) clean right))
 
 not-below : tie.Need-returns-4
 not-below c =

@@ -1,4 +1,4 @@
--- `record::number::residue` meets its contract, in each half of the range. Assumes nothing.
+-- `numbers::lanes::residue` meets its contract, in each half of the range. Assumes nothing.
 use native.Mathlib.Omega.{arith}
 use lib.IntN.{pos, negsuc, _-ℤ_}
 use lib.Signed.{mag}
@@ -6,9 +6,9 @@ use mathlib.Core.Path.{_≡_, _∙_}
 use mir.Syntax.{w32}
 use mir.Val.{toZ, ofZ}
 use mir.Facts.{toZ-ofZ, toZ-pos}
-use Rattle.record.proofs.Signed.{Negative, Positive, negative, positive}
-use Rattle.record.proofs.number.residue.Statement.{statement}
-use Rattle.record.proofs.number.residue.Tie as tie
+use Rattle.numbers.proofs.Signed.{Negative, Positive, negative, positive}
+use Rattle.numbers.proofs.lanes.residue.Statement.{statement}
+use Rattle.numbers.proofs.lanes.residue.Tie as tie
 
 -- ---- below zero
 

@@ -1,11 +1,11 @@
--- `record::status::of_number` meets its contract, for zero and for another number. Assumes nothing.
+-- `numbers::status::of_number` meets its contract, for zero and for another number. Assumes nothing.
 use Prim.Native.Nat.{ℕ, zero, suc}
 use borrow.Author.Needs.{needs}
 use mathlib.Core.Path.{_≡_, refl}
 use Rattle.rules.specs.Answers.{statusNumbered}
 use Rattle.rules.specs.declared.Status.the-variants.{Unblocked}
-use Rattle.record.proofs.status.of_number.Statement.{statement}
-use Rattle.record.proofs.status.of_number.Tie as tie
+use Rattle.numbers.proofs.status.of_number.Statement.{statement}
+use Rattle.numbers.proofs.status.of_number.Tie as tie
 
 not-zero : (number : ℕ) → (number ≡ 0 → ⊥) → Unblocked ≡ statusNumbered number
 not-zero zero h = absurd (h refl)

@@ -1,4 +1,4 @@
--- `record::number::signed` meets its contract: the upper half is -1 less what is left of it. Assumes nothing.
+-- `numbers::lanes::signed` meets its contract: the upper half is -1 less what is left of it. Assumes nothing.
 use Prim.Native.Nat.{suc, _-_, _^_}
 use native.Mathlib.Omega.{arith}
 use borrow.Author.Needs.{needs}
@@ -9,9 +9,9 @@ use mir.Syntax.{w32}
 use mir.Val.{SFits, toZ}
 use mir.Facts.{toZ-ofZ, toZ-pos}
 use Rattle.rules.specs.Number.{signed}
-use Rattle.record.proofs.Signed.{signed-toZ, minus-one-less-pos}
-use Rattle.record.proofs.number.signed.Statement.{statement}
-use Rattle.record.proofs.number.signed.Tie as tie
+use Rattle.numbers.proofs.Signed.{signed-toZ, minus-one-less-pos}
+use Rattle.numbers.proofs.lanes.signed.Statement.{statement}
+use Rattle.numbers.proofs.lanes.signed.Tie as tie
 
 rest-fits : (c : tie.Else1) → SFits w32 (negsuc (4294967295 - c .before .args .word))
 rest-fits c = record { sfits = omega arith }

@@ -1,12 +1,12 @@
--- `record::number::sum` meets its contract: the wrapped sum of two residues is the residue of the sum. Assumes nothing.
+-- `numbers::lanes::sum` meets its contract: the wrapped sum of two residues is the residue of the sum. Assumes nothing.
 use borrow.Author.Needs.{needs}
 use mathlib.Core.Path.{ap, sym}
 use mir.Syntax.{w32}
 use mir.Facts.{toZ-ofZ}
 use Rattle.rules.specs.Number.{signed, sum}
-use Rattle.record.proofs.Signed.{residue-sum}
-use Rattle.record.proofs.number.sum.Statement.{statement}
-use Rattle.record.proofs.number.sum.Tie as tie
+use Rattle.numbers.proofs.Signed.{residue-sum}
+use Rattle.numbers.proofs.lanes.sum.Statement.{statement}
+use Rattle.numbers.proofs.lanes.sum.Tie as tie
 
 pub sum-spec : {M : Type 1} → statement M
 unfolding sum
