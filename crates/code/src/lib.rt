@@ -13,13 +13,11 @@ ghost use Rattle.rules.specs.CodeBytes.{codeTests};
 // A code has at most 8,184 bytes, eight for each instruction.
 pub const INSTRUCTIONS: usize = 1023;
 
-const BYTES: usize = 8184;
-
 // "9; then each instruction upward for 10, 11, 12."
 pub fn check(code: &[u8]) -> Checked
     ensures { λ r. ⌜ r ≡ checkAnswer codeTests (now (code .entry)) ⌝ }
 {
-    if !record::size::whole(code, BYTES) {
+    if !record::size::whole(code, INSTRUCTIONS) {
         return Checked::Refused(Refusal {
             reason: Reason::CodeSize,
             place: 0,

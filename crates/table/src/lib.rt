@@ -12,16 +12,14 @@ ghost use Rattle.rules.specs.Checking.{checkAnswer};
 ghost use Rattle.rules.specs.Table.{tableTests};
 ghost use Rattle.table.specs.Counts.{Countable, NodesChecked};
 
-// A table has at most 512 nodes of eight bytes each.
+// A table has at most 4,096 bytes, eight for each node.
 const NODES: usize = 512;
-
-const BYTES: usize = 4096;
 
 // "Tests 1; then each node upward for 2, 3, 4; then 5."
 pub fn check(table: &[u8]) -> Checked
     ensures { λ r. ⌜ r ≡ checkAnswer tableTests (now (table .entry)) ⌝ }
 {
-    if !record::size::whole(table, BYTES) {
+    if !record::size::whole(table, NODES) {
         return Checked::Refused(Refusal {
             reason: Reason::TableSize,
             place: 0,
