@@ -17,7 +17,7 @@ pub enum Operands {
     Two(usize, usize),
 }
 
-// What reading a node with its tests answers: what it names, which is all that the tests of a table ask, or the refusal.
+// What reading a node with its tests answers: the nodes that it names, since the tests ask for no more of it, or the refusal.
 pub enum Reading {
     Sound(Operands),
     Refused(Refusal),
