@@ -1,5 +1,7 @@
 -- What reading a node answers, by its tests 2, 3 and 4, and what an answer says of them.
 --
+--   node-read, no-node-read
+--                   the node, from the kind and the fields that were read
 --   reads-unknown   a number that is no kind
 --   tests           the tests of a node whose kind is known, one after the other
 --   operands-named  what is named is the node's operands
@@ -10,17 +12,18 @@
 --                   test 4 on one operand, on the second of two, and on the first where it fails
 --
 -- Assumes nothing.
-use Prim.Native.Nat.{ℕ, _*_, _≤_, _<_}
+use Prim.Native.Nat.{ℕ, _+_, _*_, _≤_, _<_}
 use borrow.Author.Tests.{lt-ltb, le-ltb}
 use lib.Dec.{ltb}
 use mathlib.Core.Bool.{true, and-true}
 use mathlib.Core.List.{List, [], _∷_}
 use mathlib.Core.Option.{Option, none, some}
 use mathlib.Core.Path.{_≡_, refl, sym, _∙_}
-use Rattle.rules.specs.Bytes.{byteAt, allZero, rowNumbered}
+use Rattle.rules.specs.Bytes.{byteAt, halfAt, wordAt, allZero, rowNumbered}
 use Rattle.rules.specs.Limits.{recordBytes}
+use Rattle.rules.specs.Number.{signed}
 use Rattle.rules.specs.Refusals.{unless, firstRefusal}
-use Rattle.rules.specs.Table.{KindRow, kinds, kindAt, nodeAt, operandsOf, allBelow, nodeTest}
+use Rattle.rules.specs.Table.{KindRow, kinds, kindAt, nodeOf, nodeAt, operandsOf, allBelow, nodeTest}
 use Rattle.rules.specs.declared.Node.{Node}
 use Rattle.rules.specs.declared.Node.the-variants.{Val, Throw, Add, Seqn, Catch, Block, Unblock}
 use Rattle.rules.specs.declared.Reason.the-variants.{Kind, UnusedByte, Operand}
@@ -32,7 +35,7 @@ use Rattle.table.specs.Reading.{named, asOperands, operandsAt, readingAt
 use Rattle.table.specs.declared.node.Operands.{Operands}
 use Rattle.table.specs.declared.node.Reading.{Reading}
 use Rattle.table.specs.declared.node.Reading.the-variants.{Sound, Refused}
-use Rattle.table.proofs.NodeKinds.{node-of-kind}
+use Rattle.table.proofs.NodeKinds.{node-of-kind, node-of-no-kind}
 
 -- ---- operands
 
@@ -75,9 +78,18 @@ module _ (table : List ℕ) (j : ℕ) where
   row-tests found = rw (node-of-kind table j found) (rw (found, nodeTest))
 
   module _ {kind : ℕ} (read : kind ≡ byteAt table (recordBytes * j)) where
-    pub kind-at : {row : Option KindRow} → rowNumbered kinds kind ≡ row → kindAt table j ≡ row
+    kind-at : {row : Option KindRow} → rowNumbered kinds kind ≡ row → kindAt table j ≡ row
     unfolding kindAt
     kind-at e = rw (← read) e
+
+    pub node-read : {k left right : ℕ} {row : KindRow} → kind ≡ k → rowNumbered kinds k ≡ some row
+        → left ≡ halfAt table (recordBytes * j + 2) → right ≡ halfAt table (recordBytes * j + 4)
+        → row .node (signed (wordAt table (recordBytes * j + 4))) left right ≡ nodeAt table j
+    unfolding nodeOf
+    node-read e found two four = rw (two, four) (sym (node-of-kind table j (kind-at (rw (← e) at found))))
+
+    pub no-node-read : rowNumbered kinds kind ≡ none → nodeAt table j ≡ Throw
+    no-node-read missing = node-of-no-kind table j (kind-at missing)
 
     pub reads-unknown : rowNumbered kinds kind ≡ none → readingAt table j ≡ Refused (record { reason = Kind; place = j })
     reads-unknown missing = answer-refused Refused (Sound (operandsAt table j)) (no-kind (kind-at missing))

@@ -18,7 +18,8 @@ count-requires : tie.Need-count-requires Inv-loop μ-loop
 count-requires c κs =
     let sound = c .before .before in
     let at = sound .before .before .before in
-    nodes-room (at .before .loop .inv) (at .loop-test .taken) (sym (sound .before .before .read .ensures) ∙ sound .operands .given .1)
+    nodes-room (at .before .loop .inv) (at .loop-test .taken)
+    (sym (sound .before .before .read .ensures) ∙ sound .operands .given .1)
 
 stopped-length : tie.Need-same-length Inv-loop μ-loop
 stopped-length c =

@@ -9,10 +9,9 @@ use mir.Facts.{toZ-ofZ}
 use Rattle.rules.specs.Bytes.{wordAt, rowNumbered}
 use Rattle.rules.specs.Limits.{recordBytes}
 use Rattle.rules.specs.Number.{signed}
-use Rattle.rules.specs.Table.{KindRow, kinds, nodeOf, nodeAt}
+use Rattle.rules.specs.Table.{KindRow, kinds, nodeAt}
 use Rattle.rules.proofs.Lists.{row-none-of}
-use Rattle.table.proofs.NodeKinds.{node-of-kind, node-of-no-kind}
-use Rattle.table.proofs.Reading.{kind-at}
+use Rattle.table.proofs.Reading.{node-read, no-node-read}
 use Rattle.table.proofs.node.at.Statement.{statement}
 use Rattle.table.proofs.node.at.Tie as tie
 
@@ -22,10 +21,8 @@ kinded : (c : tie.After-byte) {kind : ℕ} {row : KindRow} → c .byte .result �
     row .node (signed (wordAt (s .table .now) (recordBytes * s .j + 4)))
     (c .before .before .half .result) (c .before .half2 .result)
     ≡ nodeAt (s .table .now) (s .j)
-unfolding nodeOf
 kinded c e found =
-    rw (c .before .before .half .ensures .0, c .before .half2 .ensures .0)
-    (sym (node-of-kind _ _ (kind-at _ _ (c .byte .ensures .0) (rw (← e) at found))))
+    node-read _ _ (c .byte .ensures .0) e found (c .before .before .half .ensures .0) (c .before .half2 .ensures .0)
 
 val : tie.Need-returns
 unfolding kinds rowNumbered
@@ -36,7 +33,7 @@ val c =
 
 no-kind : tie.Need-returns-8
 unfolding kinds
-no-kind c = sym (node-of-no-kind _ _ (kind-at _ _ (c .before .byte .ensures .0) (row-none-of kinds _ (c .match .rest))))
+no-kind c = sym (no-node-read _ _ (c .before .byte .ensures .0) (row-none-of kinds _ (c .match .rest)))
 
 pub at-spec : {M : Type 1} → statement M
 unfolding kinds rowNumbered

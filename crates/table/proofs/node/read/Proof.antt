@@ -56,8 +56,8 @@ tested : (c : tie.After-below) → let start = c .before .before .before .before
     allBelow (j start) (operandsOf (nodeAt (table start) (j start))) ≡ c .below .result
 tested c =
     let start = c .before .before .before .before in
-    ap (allBelow (j start)) (sym (operands-named (nodeAt (table start) (j start))) ∙ ap named (sym (c .before .operands-at .ensures)))
-    ∙ sym (c .below .ensures)
+    let same = sym (operands-named (nodeAt (table start) (j start))) ∙ ap named (sym (c .before .operands-at .ensures)) in
+    ap (allBelow (j start)) same ∙ sym (c .below .ensures)
 
 sound : tie.Need-returns-3
 sound c =
