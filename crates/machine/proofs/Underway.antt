@@ -51,9 +51,8 @@ module _ {code : List Instruction} {placing : Placing} where
       record { steps = steps; later = omega arith; reached = reached; height = height; left = refl; size = refl; beyond = refl }
 
   pub underway-through : {stack₀ stack₁ stack₂ : List ℕ} {start middle m : Machine}
-      → Underway code placing stack₀ stack₁ start middle → Underway code placing stack₁ stack₂ middle m → Underway code
-      placing stack₀
-      stack₂ start m
+      → Underway code placing stack₀ stack₁ start middle → Underway code placing stack₁ stack₂ middle m
+      → Underway code placing stack₀ stack₂ start m
   underway-through first second = record {
     steps = second .steps;
     later = omega (arith, first .later, second .later);

@@ -1,6 +1,5 @@
 -- `machine::steps::repeat` meets its contract. The invariant of both loops: what is left of the run is the whole of it, from
--- where
--- the loop began. The measure is how many steps are left. Assumes nothing.
+-- where the loop began. The measure is how many steps are left. Assumes nothing.
 use Prim.Native.Nat.{_-_}
 use native.Mathlib.Omega.{arith}
 use borrow.Author.Needs.{needs}

@@ -1,6 +1,5 @@
 -- `machine::state::Machine::add` meets its contract: two numbers are replaced by their sum, and there is no rule for fewer
--- than two
--- items or for other items. Assumes nothing.
+-- than two items or for other items. Assumes nothing.
 use borrow.Author.Needs.{needs}
 use mathlib.Core.Path.{sym, _∙_}
 use mir.Syntax.{w32}

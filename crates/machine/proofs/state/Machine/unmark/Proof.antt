@@ -1,6 +1,5 @@
 -- `machine::state::Machine::unmark` meets its contract: the handler below a number is removed, and there is no rule for fewer
--- than
--- two items or for other items. Assumes nothing.
+-- than two items or for other items. Assumes nothing.
 use borrow.Author.Needs.{needs}
 use mathlib.Core.Path.{sym, _∙_}
 use mir.Syntax.{w32}
