@@ -6,13 +6,17 @@
 --   Carrying    what is done for an instruction is what its rule says
 --   Removing    what unwinding removes
 --   AtLength    what a run ends in at the length
---   Stepping    the step at an instruction
---   Underway    a run, followed from one state to another
+--   Stepping    the step, at an instruction or unwinding
+--   EachState   a step leads from one of the rules' states to the next
+--   EachStep    the page of the machine: what one step promises
+--   Underway    a run, followed from state to state
 --   Turns       the turns of the run's loops
 --   Answering   what running answers and leaves, by its tests
 pub mod Answering
 pub mod AtLength
 pub mod Carrying
+pub mod EachState
+pub mod EachStep
 pub mod Removing
 pub mod Stacked
 pub mod Stepping

@@ -7,11 +7,13 @@
 --   onwardOf, unwoundOf
 --              the machine after a step
 --   Counting   its counts let it take a step
---   Ready      and its items and its address are within their limits
+--   Within     and its items are within their limit, and in the buffer
+--   Ready, Unwindable
+--              and there is an address to go on from, or an item to remove
 --   AtInstruction
---              it runs at an instruction of the code
---   Steppable, Unwindable
---              all that a step asks, running and unwinding
+--              it stands at an instruction of the code
+--   HasStep    there is a step to take: if it runs, it is at an instruction; if it unwinds, it has an item
+--   Steppable  all that a step asks
 --   Does       a step does what a rule says, and moves nothing past the stack's bytes
 --   Carries, Pushes, Steps, Unwinds
 --              the rules by name
@@ -19,7 +21,7 @@
 -- Assumes nothing.
 use Prim.Native.Nat.{ℕ, _+_, _≤_, _<_}
 use lib.ListN.{length, drop}
-use mathlib.Core.Bool.{Bool, false, cond}
+use mathlib.Core.Bool.{Bool, true, false, cond}
 use mathlib.Core.List.{List}
 use mathlib.Core.Path.{_≡_}
 use Rattle.rules.specs.Bytes.{records}
@@ -84,25 +86,30 @@ pub record Counting (m : Machine) : Type 0 where
   pub steps : m .steps < stepLimit
   pub reached : m .reached ≤ m .steps
 
-pub record Ready (stack : List ℕ) (m : Machine) : Type 0 where
+pub record Within (stack : List ℕ) (m : Machine) : Type 0 where
   pub counting : Counting m
   pub room : stackBytes ≤ length stack
   pub height : m .height ≤ itemLimit
+
+pub record Ready (stack : List ℕ) (m : Machine) : Type 0 where
+  pub within : Within stack m
   pub address : m .address < instructionLimit
 
+pub record Unwindable (stack : List ℕ) (m : Machine) : Type 0 where
+  pub within : Within stack m
+  pub some : 0 < m .height
+
 pub record AtInstruction (code : List ℕ) (m : Machine) : Type 0 where
-  pub running : m .unwinding ≡ false
   pub below : m .address < records code
+  pub limit : m .address < instructionLimit
+
+pub record HasStep (code : List ℕ) (m : Machine) : Type 0 where
+  pub running : m .unwinding ≡ false → AtInstruction code m
+  pub unwinding : m .unwinding ≡ true → 0 < m .height
 
 pub record Steppable (code stack : List ℕ) (m : Machine) : Type 0 where
-  pub ready : Ready stack m
-  pub here : AtInstruction code m
-
-pub record Unwindable (stack : List ℕ) (m : Machine) : Type 0 where
-  pub counting : Counting m
-  pub room : stackBytes ≤ length stack
-  pub height : m .height ≤ itemLimit
-  pub some : 0 < m .height
+  pub within : Within stack m
+  pub has : HasStep code m
 
 -- ---- what it promises
 

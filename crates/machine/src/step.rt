@@ -1,5 +1,5 @@
-// One step of the machine, running (document 01, "One step of the machine"). A state is handed to a step by value, and the next
-// state is handed back.
+// One step of the machine (document 01, "One step of the machine"). A state is handed to a step by value, and the next state is
+// handed back.
 
 use super::state::Machine;
 use rules::Instruction;
@@ -14,11 +14,14 @@ pub enum Step {
 }
 
 impl Machine {
-    // A step of a state that runs at an instruction.
+    // Unwinding comes first: it reads no schedule, and no recall cuts it.
     pub(crate) fn step(self, code: &[u8], schedule: &[u8], stack: &mut [u8]) -> Step
         requires { ⌜ Steppable (now code) (now stack) self ⌝ }
         ensures { λ r. ⌜ Steps (now (code .entry)) (now (schedule .entry)) (now (stack .entry)) self r (now (stack .exit)) ⌝ }
     {
+        if self.unwinding {
+            return Step::Next(self.unwind(stack));
+        }
         let present = self.status;
         if record::schedule::strikes(present, schedule, self.reached) {
             return Step::Next(self.onward(true, self.address, present, self.height));

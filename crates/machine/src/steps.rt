@@ -10,7 +10,8 @@ use rules::Reason;
 use rules::Status;
 ghost use Rattle.machine.specs.Runs.{Runnable, Ran};
 
-// "An end or 14 at the length comes before 15, 15 before a step." The loop is left with its end as its value.
+// "An end or 14 at the length comes before 15, 15 before a step." The loop is left with its end as its value. The inner one takes
+// a step, and goes on as long as that unwinds.
 pub(crate) fn repeat(status: Status, code: &[u8], schedule: &[u8], stack: &mut [u8]) -> Answer
     requires { ⌜ Runnable (now code) (now stack) ⌝ }
     ensures { λ r. ⌜ Ran status (now (code .entry)) (now (schedule .entry)) (now (stack .entry)) r (now (stack .exit)) ⌝ }
@@ -21,22 +22,21 @@ pub(crate) fn repeat(status: Status, code: &[u8], schedule: &[u8], stack: &mut [
         if length <= machine.address {
             break machine.at_length(stack);
         }
-        if machine.steps == Machine::STEPS {
-            break refused(Reason::Steps, 0);
-        }
-        match machine.step(code, schedule, stack) {
-            Step::Next(next) => machine = next,
-            Step::Full => break refused(Reason::StackFull, machine.address),
-            Step::NoRule => break refused(Reason::NoRule, machine.address),
-        }
-        while machine.unwinding {
-            if machine.height == 0 {
-                break 'run Outcome::Ended(End::Throw);
-            }
+        loop {
             if machine.steps == Machine::STEPS {
                 break 'run refused(Reason::Steps, 0);
             }
-            machine = machine.unwind(stack);
+            match machine.step(code, schedule, stack) {
+                Step::Next(next) => machine = next,
+                Step::Full => break 'run refused(Reason::StackFull, machine.address),
+                Step::NoRule => break 'run refused(Reason::NoRule, machine.address),
+            }
+            if !machine.unwinding {
+                break;
+            }
+            if machine.height == 0 {
+                break 'run Outcome::Ended(End::Throw);
+            }
         }
     };
     Answer {

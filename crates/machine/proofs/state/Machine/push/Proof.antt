@@ -18,7 +18,7 @@ returns-2 c =
     let s = tested .before .before in
     rw (c .onward .ensures)
     (pushed (s .args .stack .now) (s .args .self) (s .args .item) (s .args .status)
-    (omega (arith, tested .if1 .left, s .pre .0 .height))
+    (omega (arith, tested .if1 .left, s .pre .0 .within .height))
     (put .put .ensures))
 
 pub push-spec : {M : Type 1} → statement M

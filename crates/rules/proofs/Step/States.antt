@@ -1,0 +1,56 @@
+-- The states of a run, one after another (`specs/Run`, `stateAfter`).
+--
+--   state-next    a step that is taken from one of them gives the next
+--   run-from      the run from one of them, with the steps that are left, is the whole run
+--
+-- Assumes nothing.
+use Prim.Native.Nat.{ℕ, zero, suc, _+_}
+use native.Mathlib.Omega.{arith}
+use mathlib.Core.List.{List}
+use mathlib.Core.Option.{Option, none, some, Option·some-injective, Option·none-ne-some}
+use mathlib.Core.Path.{_≡_, refl, sym, ap, _∙_}
+use Rattle.rules.specs.Machine.{State, fresh, Placing, Step, Next, Over, Stuck, step}
+use Rattle.rules.specs.Run.{run, nextOf, stepFrom, stateAfter}
+use Rattle.rules.specs.declared.Instruction.{Instruction}
+use Rattle.rules.specs.declared.Status.{Status}
+use Rattle.rules.proofs.Step.Order.{run-next}
+
+module _ (code : List Instruction) (placing : Placing) (i : Status) where
+  abbrev After : ℕ → State → Type 0
+  After k s = stateAfter code placing i k ≡ some s
+
+  pub state-next : (k : ℕ) {s next : State} → After k s → step code placing s ≡ Next next → After (suc k) next
+  unfolding stateAfter stepFrom nextOf
+  state-next k at taken = rw (at, stepFrom, taken)
+
+  -- what stands before a state that a step led to
+  record Before (k : ℕ) (next : State) : Type 0 where
+    state : State
+    at : After k state
+    taken : step code placing state ≡ Next next
+
+  by-step : (k : ℕ) {s next : State} (x : Step) → step code placing s ≡ x → After k s → nextOf x ≡ some next → Before k next
+  unfolding nextOf
+  by-step k {s = s} (Next t) taken at e = record { state = s; at = at; taken = taken ∙ ap Next (Option·some-injective _ _ e) }
+  by-step k (Over o) taken at e = absurd (Option·none-ne-some _ e)
+  by-step k (Stuck r) taken at e = absurd (Option·none-ne-some _ e)
+
+  by-state : (k : ℕ) {next : State} (x : Option State) → stateAfter code placing i k ≡ x → stepFrom code placing x ≡ some next
+      → Before k next
+  unfolding stepFrom
+  by-state k none at e = absurd (Option·none-ne-some _ e)
+  by-state k (some s) at e = by-step k (step code placing s) refl at e
+
+  before : (k : ℕ) {next : State} → After (suc k) next → Before k next
+  unfolding stateAfter
+  before k e = by-state k (stateAfter code placing i k) refl e
+
+  pub run-from : (k left all : ℕ) → k + left ≡ all → (s : State) → After k s
+      → run code placing left s ≡ run code placing all (fresh i)
+  unfolding stateAfter
+  run-from zero left all e s at =
+      let same : left ≡ all = omega (arith, e) in
+      rw same (ap (run code placing all) (sym (Option·some-injective _ _ at)))
+  run-from (suc k) left all e s at =
+      let last = before k at in
+      sym (run-next code placing (last .state) left (last .taken)) ∙ run-from k (suc left) all (omega (arith, e)) (last .state) (last .at)
