@@ -32,13 +32,19 @@ prints input line = record { input = input; line = line }
 abbrev head : ℕ → ℕ → ℕ → List ℕ
 head status low high = status ∷ low ∷ high ∷ []
 
+-- Add (Val -2147483648) (Val -1)
+abbrev addUnderTheBottom : List ℕ
+addUnderTheBottom = eight 1 0 0 0 0 0 0 128 ++ eight 1 0 0 0 255 255 255 255 ++ eight 3 0 0 0 1 0 0 0
+
 printed : List Printed
 printed =
     prints (head 1 8 0 ++ justNine) "number 9 steps 1 reached 1\n"
     -- the byte after the table is the schedule's first: a recall at instruction 0
     ∷ prints (head 1 8 0 ++ justNine ++ (1 ∷ [])) "throw steps 1 reached 1\n"
     ∷ prints (head 0 8 0 ++ justNine ++ (1 ∷ [])) "number 9 steps 1 reached 1\n"
+    -- sums past both ends of the range
     ∷ prints (head 0 24 0 ++ addOverTheTop) "number -2147483648 steps 3 reached 3\n"
+    ∷ prints (head 0 24 0 ++ addUnderTheBottom) "number 2147483647 steps 3 reached 3\n"
     -- refused by compiling, at node 0 and at node 1, and by running
     ∷ prints (head 1 16 0 ++ usedTwice) "refused 5 at 0\n"
     ∷ prints (head 1 16 0 ++ justNine ++ eight 8 0 0 0 0 0 0 0) "refused 2 at 1\n"

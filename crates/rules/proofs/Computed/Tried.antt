@@ -2,12 +2,14 @@
 -- something else is wrong too, so that the order of tests shows; and what is left in the buffers. By computation; what must come
 -- was worked out from document 01 by hand.
 --
+--   sums-tried                                   sums at both ends of the range
 --   sizes-tried                                  the sizes at which 1 and 9 begin
 --   tables-tried, code-left, code-untouched      compiling
 --   codes-tried, stack-zeroed, stack-untouched   running
 --
 -- Assumes nothing.
 use Prim.Native.Nat.{ℕ}
+use lib.IntN.{ℤ, pos, negsuc}
 use lib.ListN.{replicate}
 use mathlib.Core.Bool.{Bool, true, false}
 use mathlib.Core.List.{List, [], _∷_, _++_, map}
@@ -16,11 +18,46 @@ use Rattle.rules.specs.Answers.{outcomeRefusal, outcomePlace, compiledLe
 use Rattle.rules.specs.Bytes.{wholeRecords}
 use Rattle.rules.specs.Compiling.{compileAnswer, compileLeaves}
 use Rattle.rules.specs.Limits.{tableLimit, codeLimit}
+use Rattle.rules.specs.Number.{sum}
 use Rattle.rules.specs.Rehearsed.{eight, treeA}
 use Rattle.rules.specs.Running.{runAnswer, runLeaves}
 use Rattle.rules.specs.declared.Compiled.{Compiled}
 use Rattle.rules.specs.declared.Answer.{Answer}
 use Rattle.rules.proofs.Computed.Computing.{computing}
+
+-- ---- sums: "exact at both ends of the range" (document 01, "Places and their forms")
+
+record Summing : Type 0 where
+  first : ℤ
+  second : ℤ
+  together : ℤ
+
+abbrev adds : ℤ → ℤ → ℤ → Summing
+adds n m together = record { first = n; second = m; together = together }
+
+abbrev highest : ℤ
+highest = pos 2147483647
+
+abbrev lowest : ℤ
+lowest = negsuc 2147483647
+
+sums : List Summing
+sums =
+    -- past an end, by one and as far as can be
+    adds highest (pos 1) lowest
+    ∷ adds lowest (negsuc 0) highest
+    ∷ adds highest highest (negsuc 1)
+    ∷ adds lowest lowest (pos 0)
+    -- up to an end, and back to the middle
+    ∷ adds (pos 2147483646) (pos 1) highest
+    ∷ adds (negsuc 2147483646) (negsuc 0) lowest
+    ∷ adds lowest highest (negsuc 0)
+    ∷ adds (negsuc 0) (pos 1) (pos 0)
+    ∷ []
+
+sums-tried : map (λ s. sum (s .first) (s .second)) sums ≡ map (λ s. s .together) sums
+unfolding computing sums
+sums-tried = refl
 
 -- ---- sizes: 512 nodes and 1,023 instructions are taken, one more is not, nor one byte less
 
@@ -117,8 +154,8 @@ code status bytes room refusal place steps reached =
 abbrev pushOne : List ℕ
 pushOne = eight 1 0 0 0 1 0 0 0
 
-codes : List Running
-codes =
+refusedCodes : List Running
+refusedCodes =
     -- 7, 8, 9 in this order
     code 2 [] 4095 7 0 0 0
     ∷ code 1 [] 4095 8 0 0 0
@@ -137,23 +174,29 @@ codes =
     ∷ code 1 (eight 6 0 0 0 2 0 0 0) 4096 12 0 0 0
     -- each instruction upward: 12 at address 0 before 10 at address 1
     ∷ code 1 (eight 5 0 0 0 0 0 0 0 ++ eight 0 0 0 0 0 0 0 0) 4096 12 0 0 0
-    -- a target at the length is none of these: MARK 1 runs, and at the length there is no number
-    ∷ code 1 (eight 5 0 0 0 1 0 0 0) 4096 14 1 1 1
-    ∷ code 0 pushOne 4096 0 0 1 1
     ∷ []
+
+codes : List Running
+codes =
+    -- a target at the length is none of these: MARK 1 runs, and at the length there is no number
+    code 1 (eight 5 0 0 0 1 0 0 0) 4096 14 1 1 1
+    ∷ code 0 pushOne 4096 0 0 1 1
+    ∷ refusedCodes
 
 runFields : Answer → List ℕ
 runFields a = outcomeRefusal (a .outcome) ∷ outcomePlace (a .outcome) ∷ a .steps ∷ a .reached ∷ []
 
 codes-tried : map (λ c. runFields (runAnswer (c .status) (c .code) [] (replicate (c .room) 170))) codes
     ≡ map (λ c. c .answer) codes
-unfolding computing runFields codes
+unfolding computing runFields codes refusedCodes
 codes-tried = refl
 
 stack-zeroed : runLeaves 1 pushOne (replicate 4096 170 ++ (171 ∷ [])) ≡ replicate 4096 0 ++ (171 ∷ [])
 unfolding computing
 stack-zeroed = refl
 
-stack-untouched : runLeaves 1 (pushOne ++ eight 9 0 0 0 0 0 0 0) (replicate 4096 170) ≡ replicate 4096 170
-unfolding computing
+-- "Refusals 7 to 12 write nothing."
+stack-untouched : map (λ c. runLeaves (c .status) (c .code) (replicate (c .room) 170)) refusedCodes
+    ≡ map (λ c. replicate (c .room) 170) refusedCodes
+unfolding computing refusedCodes
 stack-untouched = refl

@@ -1,5 +1,5 @@
 -- `numbers::lanes::signed` meets its contract: the upper half is -1 less what is left of it. Assumes nothing.
-use Prim.Native.Nat.{suc, _-_, _^_}
+use Prim.Native.Nat.{ℕ, suc, _-_, _^_}
 use native.Mathlib.Omega.{arith}
 use borrow.Author.Needs.{needs}
 use borrow.Author.Tests.{le-ltb}
@@ -13,13 +13,17 @@ use Rattle.numbers.proofs.Signed.{signed-toZ, minus-one-less-pos}
 use Rattle.numbers.proofs.lanes.signed.Statement.{statement}
 use Rattle.numbers.proofs.lanes.signed.Tie as tie
 
-rest-fits : (c : tie.Else1) → SFits w32 (negsuc (4294967295 - c .before .args .word))
+-- what is left of the upper half
+abbrev rest : tie.Else1 → ℕ
+rest c = 4294967295 - c .before .args .word
+
+rest-fits : (c : tie.Else1) → SFits w32 (negsuc (rest c))
 rest-fits c = record { sfits = omega arith }
 
-upper : (c : tie.Else1) → negsuc 0 -ℤ toZ w32 (4294967295 - c .before .args .word) ≡ negsuc (4294967295 - c .before .args .word)
+upper : (c : tie.Else1) → negsuc 0 -ℤ toZ w32 (rest c) ≡ negsuc (rest c)
 upper c = rw (toZ-pos w32 (rest-fits c .sfits)) (minus-one-less-pos _)
 
-same : (c : tie.Else1) → 4294967295 - c .before .args .word ≡ 2 ^ 32 - suc (c .before .args .word)
+same : (c : tie.Else1) → rest c ≡ 2 ^ 32 - suc (c .before .args .word)
 same c = omega arith
 
 pub signed-spec : {M : Type 1} → statement M
