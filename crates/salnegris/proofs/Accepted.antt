@@ -5,6 +5,7 @@
 --   table-passes, table-accepted
 --                       and the table is one of document 01's
 --   code-length         the length in the answer
+--   code-answered       which is that of the code; its other fields are 0
 --   code-left           the code stands at the front of the buffer
 --   later-left          and later bytes are as they were
 --   few-nodes           its recipe has as many nodes as the table has records, at most 512
@@ -21,9 +22,9 @@ use lib.Seq.{take-at, drop-at}
 use mathlib.Core.List.{List}
 use mathlib.Core.Option.{Option, none, some}
 use mathlib.Core.Path.{_≡_, refl, sym, _∙_}
-use Rattle.rules.specs.Answers.{compiledLength, compiledRefusal}
+use Rattle.rules.specs.Answers.{compiledLength, compiledRefusal, compiledPlace}
 use Rattle.rules.specs.Bytes.{records}
-use Rattle.rules.specs.Code.{codeLength}
+use Rattle.rules.specs.Code.{codeLength, compile}
 use Rattle.rules.specs.CodeBytes.{bytesOf}
 use Rattle.rules.specs.Compiling.{codeOf, compileTests, compileAnswer, compileLeaves}
 use Rattle.rules.specs.Expression.{nodes}
@@ -37,9 +38,11 @@ use Rattle.rules.specs.declared.Reason.the-variants.{CodeSize, Opcode, Field, T
 use Rattle.rules.specs.declared.Refusal.{Refusal}
 use Rattle.rules.proofs.Bytes.Answered.{compile-passed, compile-refused}
 use Rattle.rules.proofs.Bytes.CodeBytes.{length-bytesOf-compile}
+use Rattle.rules.proofs.Theory.Holding.{length-compile}
 use Rattle.rules.proofs.Refusals.{unless-passed, first-none, first-only, rows-none, rows-passed}
 use Rattle.table.specs.Acceptance.{AcceptedTable}
 use Rattle.table.proofs.Acceptance.{accepted, recipe-nodes, recipe-short}
+use Rattle.salnegris.specs.Fields.{compiledFields}
 
 pub record Passes (table buffer : List ℕ) : Type 0 where
   pub tests : firstRefusal (compileTests table buffer) ≡ none
@@ -94,6 +97,11 @@ module _ {table buffer : List ℕ} (all : Passes table buffer) where
   pub code-length : compiledLength (compileAnswer table buffer) ≡ codeLength (recipe table)
   unfolding compiledLength
   code-length = rw (compile-passed table buffer (all .tests) .0)
+
+  pub code-answered : compiledFields (compileAnswer table buffer)
+      ≡ record { length = length (compile 0 (recipe table)); refusal = 0; place = 0 }
+  unfolding compiledLength compiledRefusal compiledPlace
+  code-answered = rw (compile-passed table buffer (all .tests) .0, length-compile 0 (recipe table))
 
   pub code-left : take (recordBytes * compiledLength (compileAnswer table buffer)) (compileLeaves table buffer)
       ≡ bytesOf (codeOf table)

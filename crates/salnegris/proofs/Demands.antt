@@ -1,10 +1,13 @@
 -- The three demands of the order, over bytes: what `salnegris_compile` and `salnegris_run` together mean. Each statement stands
 -- under the sentence that it keeps; the proofs, at the foot of the page, cite the laws below it.
 --
---   compile-answers, run-answers   demand 1: the promises of both functions, which ask nothing
+--   compile-answers, run-answers   demand 1: the promises of both functions are kept
+--   compile-asks, run-asks         they ask nothing
+--   compile-says, run-says         and say what is the answer and what is left in the buffer
 --   Demand1, demand-1              demand 1: refusals and buffers
---   Demand2, demand-2              demand 2: acceptance, the code made, the run
+--   Demand2, demand-2              demand 2: acceptance, the code made, the run and each of its states
 --   Demand3, demand-3              demand 3: the ends of compiled code under every schedule are those that the rules permit
+--   Exact, exact                   neither of its bounds can be smaller
 --   room-enough                    a code buffer of 8,184 bytes is never too small
 --   Relied, relied                 what document 01 says besides of compiled code, and a worker counts on
 --
@@ -16,12 +19,14 @@
 --
 -- Assumes nothing.
 use Prim.Native.Nat.{ℕ, _*_, _-_, _≤_, _<_}
+use contract.Lifetimes.{Lfts}
+use denote.Ref.{RefT, now}
 use lib.IntN.{pos}
 use lib.ListN.{length, take, drop, replicate}
 use mathlib.Core.List.{List, [], _++_}
 use mathlib.Core.Logic.{_↔_}
 use mathlib.Core.Option.{none, some}
-use mathlib.Core.Path.{_≡_}
+use mathlib.Core.Path.{_≡_, refl}
 use Rattle.rules.specs.Answers.{statusNumber, statusNumbered}
 use Rattle.rules.specs.Bytes.{byteAt, records}
 use Rattle.rules.specs.Code.{compile}
@@ -29,10 +34,11 @@ use Rattle.rules.specs.CodeBytes.{bytesOf, instructions}
 use Rattle.rules.specs.Compiling.{compileTests, compileAnswer, compileLeaves}
 use Rattle.rules.specs.Demand.{AsksNothingFrom}
 use Rattle.rules.specs.Evaluating.{evaluateAnswer}
-use Rattle.rules.specs.Evaluation.{Gives}
+use Rattle.rules.specs.Evaluation.{Gives, INT}
 use Rattle.rules.specs.Limits.{recordBytes, codeLimit, stackBytes}
 use Rattle.rules.specs.Recipe.{recipe}
 use Rattle.rules.specs.Refusals.{refusalNumber, firstRefusal}
+use Rattle.rules.specs.Rehearsed.{justNine}
 use Rattle.rules.specs.Run.{runs}
 use Rattle.rules.specs.Running.{runTests, runAnswer, runLeaves}
 use Rattle.rules.specs.Schedule.{asks}
@@ -41,25 +47,35 @@ use Rattle.rules.specs.declared.End.{End}
 use Rattle.rules.specs.declared.End.the-variants.{Number, Throw}
 use Rattle.rules.specs.declared.Refusal.{Refusal}
 use Rattle.rules.specs.declared.Status.{Status}
+use Rattle.rules.specs.declared.Status.the-variants.{Blocked, Unblocked}
+use Rattle.rules.proofs.Computed.ExactBounds.{openedOne, recallAtReset, codeBuffer, stackBuffer}
 use Rattle.salnegris.specs.Fields.{compiledFields, answerFields}
 use Rattle.salnegris.specs.declared.AnswerFields.{AnswerFields}
 use Rattle.salnegris.specs.declared.CompiledFields.{CompiledFields}
-use Rattle.salnegris.proofs.salnegris_compile.Statement as compile-promise
-use Rattle.salnegris.proofs.salnegris_run.Statement as run-promise
+use Rattle.machine.proofs.EachStep.{EachStep}
+use Rattle.salnegris.proofs.salnegris_compile.Statement as compile-statement
+use Rattle.salnegris.proofs.salnegris_compile.Reads as compile-promise
+use Rattle.salnegris.proofs.salnegris_run.Statement as run-statement
+use Rattle.salnegris.proofs.salnegris_run.Reads as run-promise
 -- what only the proofs cite
+use native.Mathlib.Decide.{decLt}
 use native.Mathlib.Omega.{arith}
-use mathlib.Core.Path.{refl, sym, ap, _∙_, fun-ext}
+use mathlib.Core.Path.{sym, ap, _∙_, fun-ext}
 use Rattle.rules.specs.Answers.{outcomeKind, outcomeNumber, outcomeRefusal, outcomePlace}
 use Rattle.rules.specs.Answers.{compiledLength, compiledRefusal, compiledPlace}
 use Rattle.rules.specs.Compiling.{codeOf}
-use Rattle.rules.specs.Demand.{ofExpression, mostSteps, mostReached, Ends}
+use Rattle.rules.specs.Demand as theory
+use Rattle.rules.specs.Demand.{ofExpression, mostReached, Ends}
 use Rattle.rules.specs.declared.Answer.{Answer}
 use Rattle.rules.specs.declared.Outcome.the-variants.{Ended}
 use Rattle.rules.proofs.Bytes.Answered.{compile-passed, compile-refused, evaluate-passed, run-passed, run-refused}
+use Rattle.rules.proofs.Computed.ExactBounds.{openedOne-accepted, justNine-accepted, openedOne-cut, justNine-cut}
+use Rattle.rules.proofs.Computed.ExactBounds.{justNine-uncut, atPush, atPush-only}
 use Rattle.rules.proofs.Bytes.ScheduleBytes.{scheduleOf, scheduleOf-bytes, asks-scheduleOf, asks-nothing}
 use Rattle.table.proofs.Acceptance.{recipe-short}
+use Rattle.machine.proofs.EachStep.{each-step}
 use Rattle.salnegris.proofs.Accepted.{Passes, passes, table-passes, table-accepted, few-nodes, enough}
-use Rattle.salnegris.proofs.Accepted.{code-length, code-left, later-left}
+use Rattle.salnegris.proofs.Accepted.{code-length, code-answered, code-left, later-left}
 use Rattle.salnegris.proofs.CompiledRun.{recipe-demand, compiled-run, code-never-refused}
 use Rattle.salnegris.proofs.Inside.{compile-inside, run-inside}
 use Rattle.salnegris.proofs.salnegris_compile.Met as compile-proof
@@ -87,17 +103,43 @@ EndsIn Throw answer = answer .kind ≡ 1
 abbrev pub Bytes : List ℕ → Type 0
 Bytes schedule = (k : ℕ) → byteAt schedule k < 256
 
+-- "within 3n - 1 steps", "over the first 2n - 1 instructions reached", of n nodes
+abbrev pub mostSteps : ℕ → ℕ
+mostSteps n = 3 * n - 1
+
+abbrev pub mostPlaced : ℕ → ℕ
+mostPlaced n = 2 * n - 1
+
 -- ---- demand 1
 
 -- "Compiler and runner answer for every input, end every time, and stay inside their buffers. .. No caller has to check first."
--- What the kit calls a function's statement is that from any arguments it ends, touches nothing but what it is lent, and leaves
--- what its `ensures` say. Neither of these has a `requires`. Their `ensures` (`src/lib.rt`) are equations: the answer is
--- `compiled` or `ran` as above, and the buffer afterwards `compileLeaves` or `runLeaves`; so no second answer meets them.
-pub compile-answers : {M : Type 1} → compile-promise.statement M
+-- What the kit calls a function's statement is that from any arguments that it asks for it ends, touches nothing but what it is
+-- lent, and leaves what it says.
+pub compile-answers : {M : Type 1} → compile-statement.statement M
 compile-answers = compile-proof.met
 
-pub run-answers : {M : Type 1} → run-promise.statement M
+pub run-answers : {M : Type 1} → run-statement.statement M
 run-answers = run-proof.met
+
+-- What they ask and what they say (`src/lib.rt`), word by word, so that a word less breaks this page: they ask nothing, and say by
+-- equation what is the answer and what is left in the buffer, so that no second answer meets them.
+module _ (lifetimes : Lfts 2) (table buffer : RefT (List ℕ)) where
+  pub compile-asks : compile-promise.Asked lifetimes (table, (buffer, tt)) ≡ Unit {0}
+  compile-asks = refl
+
+  pub compile-says : (answer : CompiledFields) (left : RefT (List ℕ))
+      → compile-promise.Learnt lifetimes (table, (buffer, tt)) answer (table, (left, tt))
+      ≡ ((answer ≡ compiled (now table) (now buffer)) × (now left ≡ compileLeaves (now table) (now buffer)))
+  compile-says answer left = refl
+
+module _ (lifetimes : Lfts 3) (status : ℕ) (code schedule stack : RefT (List ℕ)) where
+  pub run-asks : run-promise.Asked lifetimes (status, (code, (schedule, (stack, tt)))) ≡ Unit {0}
+  run-asks = refl
+
+  pub run-says : (answer : AnswerFields) (left : RefT (List ℕ))
+      → run-promise.Learnt lifetimes (status, (code, (schedule, (stack, tt)))) answer (status, (code, (schedule, (left, tt))))
+      ≡ ((answer ≡ ran status (now code) (now schedule) (now stack)) × (now left ≡ runLeaves status (now code) (now stack)))
+  run-says answer left = refl
 
 pub record Demand1 : Type 0 where
   -- "Bad input gets exactly the refusal of document 01, and what is then in the buffers is fixed too": the refusal is that of the
@@ -123,11 +165,15 @@ pub record Demand2 : Type 0 where
   -- A table is accepted exactly when no test refuses it.
   pub acceptance : (table buffer : List ℕ)
       → (compiled table buffer .refusal ≡ 0) ↔ (firstRefusal (compileTests table buffer) ≡ none)
-  -- The code made is that of the recipe that the table holds; later bytes stay as they were.
+  -- The code made is that of the recipe that the table holds, the answer is its length, and later bytes stay as they were.
   pub code : (table buffer : List ℕ) → compiled table buffer .refusal ≡ 0
-      → (codeIn table buffer ≡ bytesOf (compile 0 (recipe table)))
+      → (compiled table buffer ≡ record { length = length (compile 0 (recipe table)); refusal = 0; place = 0 })
+      × (codeIn table buffer ≡ bytesOf (compile 0 (recipe table)))
       × (drop (recordBytes * compiled table buffer .length) (compileLeaves table buffer)
       ≡ drop (recordBytes * compiled table buffer .length) buffer)
+  -- "each state and both counts are those of the rules": a step of the machine leads from the rules' state after so many steps to
+  -- the next (`machine`, `EachStep`). The run's loop takes no other.
+  pub states : EachStep
   -- The end and both counts of a run are those of the rules' steps, one by one, from a fresh state.
   pub run : (status : ℕ) (code schedule stack : List ℕ) → firstRefusal (runTests status code stack) ≡ none
       → ran status code schedule stack ≡ answerFields (runs (instructions code) (asks schedule) (statusNumbered status))
@@ -149,10 +195,22 @@ module _ (table buffer : List ℕ) (i : Status) (stack : List ℕ) where
     -- sums wrapped, permit that end"
     pub exactly : (v : End) → ((schedule : List ℕ) × Bytes schedule × EndsIn v (under schedule)) ↔ Gives (recipe table) i v
     -- "Every placing, however long, ends in a number or a throw within 3n - 1 steps"
-    pub ends : (schedule : List ℕ) → (v : End) × EndsIn v (under schedule) × (under schedule .steps ≤ 3 * n - 1)
+    pub ends : (schedule : List ℕ) → (v : End) × EndsIn v (under schedule) × (under schedule .steps ≤ mostSteps n)
     -- "each permitted end is met by a placing over the first 2n - 1 instructions reached"
     pub meets : (v : End) → Gives (recipe table) i v
-        → (schedule : List ℕ) × Bytes schedule × AsksNothingFrom (2 * n - 1) (asks schedule) × EndsIn v (under schedule)
+        → (schedule : List ℕ) × Bytes schedule × AsksNothingFrom (mostPlaced n) (asks schedule) × EndsIn v (under schedule)
+
+-- Neither bound can be smaller.
+pub record Exact : Type 0 where
+  pub accepted : (compiled openedOne codeBuffer .refusal ≡ 0) × (compiled justNine codeBuffer .refusal ≡ 0)
+  -- Unblock (Val 1) from blocked, with a recall at its RESET, takes just so many steps.
+  pub steps : under openedOne codeBuffer Blocked stackBuffer recallAtReset .steps ≡ mostSteps (records openedOne)
+  -- Val 9 in unblocked may throw, and a placing over the first b instructions meets that exactly if b is no less.
+  pub permitted : Gives (recipe justNine) Unblocked Throw
+  pub placed : (b : ℕ)
+      → ((schedule : List ℕ) × AsksNothingFrom b (asks schedule)
+      × EndsIn Throw (under justNine codeBuffer Unblocked stackBuffer schedule))
+      ↔ (mostPlaced (records justNine) ≤ b)
 
 -- ---- what document 01 says besides
 
@@ -165,7 +223,7 @@ room-enough table buffer tests room = rw (compile-passed table buffer (enough ta
 -- Of a table that compiling accepted into some buffer.
 pub record Relied (table buffer : List ℕ) : Type 0 where
   -- "The code length is .. at most 2n - 1"
-  pub short : compiled table buffer .length ≤ 2 * records table - 1
+  pub short : compiled table buffer .length ≤ mostPlaced (records table)
   -- "Compiled code never meets 9 to 15", whatever the status, the schedule and the stack buffer.
   pub code-never-refused : (status : ℕ) (schedule stack : List ℕ) → ran status (codeIn table buffer) schedule stack .refusal ≤ 8
   -- Evaluating the table gives what its run ends in when no recall comes, in both statuses.
@@ -190,7 +248,9 @@ unfolding codeOf compiledRefusal
 demand-2 = record {
   acceptance = λ table buffer.
       ((λ accepted. passes table buffer accepted .tests), λ e. rw (compile-passed table buffer e .0));
-  code = λ table buffer accepted. let all = passes table buffer accepted in (code-left all, later-left all);
+  code = λ table buffer accepted.
+      let all = passes table buffer accepted in (code-answered all, code-left all, later-left all);
+  states = each-step;
   run = λ status code schedule stack e. ap answerFields (run-passed status code schedule stack e .0);
 }
 
@@ -222,7 +282,7 @@ module _ (table buffer : List ℕ) (accepted : compiled table buffer .refusal �
   ends schedule = rw (answered schedule) (recipe-demand all i .ends (asks schedule))
 
   meets : (v : End) → Gives (recipe table) i v
-      → (schedule : List ℕ) × Bytes schedule × AsksNothingFrom (2 * records table - 1) (asks schedule)
+      → (schedule : List ℕ) × Bytes schedule × AsksNothingFrom (mostPlaced (records table)) (asks schedule)
       × EndsIn v (under table buffer i stack schedule)
   unfolding mostReached
   meets v d =
@@ -237,7 +297,7 @@ module _ (table buffer : List ℕ) (accepted : compiled table buffer .refusal �
       )
 
   pub demand-3 : Demand3 table buffer i stack
-  unfolding mostSteps
+  unfolding theory.mostSteps
   demand-3 = record {
     exactly = λ v. (
       (λ met.
@@ -251,6 +311,37 @@ module _ (table buffer : List ℕ) (accepted : compiled table buffer .refusal �
         (run .end, ended (run .end) _ (run .ended), omega (arith, run .withinSteps, few-nodes all .0));
     meets = meets;
   }
+
+-- the bounds, met
+
+may-throw : (b : ℕ) → mostPlaced (records justNine) ≤ b
+    → (schedule : List ℕ) × AsksNothingFrom b (asks schedule)
+    × EndsIn Throw (under justNine codeBuffer Unblocked stackBuffer schedule)
+may-throw b enough =
+    let schedule : List ℕ = scheduleOf atPush 1 in
+    let same : asks schedule ≡ atPush = fun-ext (asks-scheduleOf atPush 1 atPush-only) in (
+      schedule,
+      rw same (λ k past. atPush-only k (omega (arith, enough, past))),
+      ended Throw _ (rw (justNine-cut schedule same)),
+    )
+
+needs-one : (b : ℕ) (schedule : List ℕ) → AsksNothingFrom b (asks schedule)
+    → EndsIn Throw (under justNine codeBuffer Unblocked stackBuffer schedule) → mostPlaced (records justNine) ≤ b
+unfolding EndsIn outcomeKind
+needs-one b schedule silent ends-so = elim (decLt 0 b) [
+  | yes one ↦ omega (arith, one)
+  | no none-placed ↦
+      let number = justNine-uncut schedule (λ k h. silent k (omega (arith, none-placed))) in
+      absurd (omega (arith, rw number at ends-so))
+]
+
+pub exact : Exact
+exact = record {
+  accepted = (openedOne-accepted, justNine-accepted);
+  steps = ap (λ a. a .steps) openedOne-cut;
+  permitted = INT;
+  placed = λ b. ((λ met. let (schedule, silent, ends-so) = met in needs-one b schedule silent ends-so), may-throw b);
+}
 
 module _ (table buffer : List ℕ) (accepted : compiled table buffer .refusal ≡ 0) where
   tests-passed : Passes table buffer
