@@ -46,14 +46,14 @@ returns-3 c =
 
 returns-4 : tie.Need-returns-4
 returns-4 c =
-    let told = c .before .before in
-    let checked = told .before .before in
+    let untaken = c .before .before in
+    let checked = untaken .before .before in
     let room = checked .before in
     let right = room .before in
     let s = right .before .before .before .before .args in
     rw (c .refused3 .ensures)
     (code-refused (s .status) (s .code .now) (s .schedule .now) (s .stack .now) (right .if1 .left) (room .if2 .left)
-    (sym (checked .check .ensures) ∙ told .refusal .given .1))
+    (sym (checked .check .ensures) ∙ untaken .refusal .given .1))
 
 pub run-spec : {M : Type 1} → statement M
 run-spec =

@@ -152,19 +152,21 @@ returns-2 c =
 
 same-length-3 : tie.Need-same-length-3 Inv-loop μ-loop Inv-run μ-run
 same-length-3 c =
-    let step = c .before .before .before .before .before in
+    let full-told = c .before in
+    let step = full-told .before .before .before .before in
     step .step .kept .1 .1 .1 .0 ∙ within (step .before .before .before .before) .size
 
 returns-3 : tie.Need-returns-3 Inv-loop μ-loop Inv-run μ-run
 returns-3 c =
-    let step = c .before .before .before .before .before in
+    let no-room = c .before in
+    let step = no-room .before .before .before .before in
     let left = step .before .before in
     let turn = left .before .before in
     let so-far = within turn in
-    let does = rw (c .before .enum-told .given .1) at (step .step .ensures) in
+    let does = rw (no-room .enum-told .given .1) at (step .step .ensures) in
+    let end = full so-far (left .if2 .left) does in
     record {
-      answered =
-          rw (c .refused2 .ensures) (full so-far (left .if2 .left) does ∙ whole (turn .before .before .before .before));
+      answered = rw (c .refused2 .ensures) (end ∙ whole (turn .before .before .before .before));
       beyond = does .beyond ∙ so-far .beyond;
     }
 
@@ -180,9 +182,9 @@ returns-4 c =
     let turn = left .before .before in
     let so-far = within turn in
     let does = rw (c .before .enum-told2 .given .1) at (step .step .ensures) in
+    let end = no-rule so-far (left .if2 .left) does in
     record {
-      answered =
-          rw (c .refused3 .ensures) (no-rule so-far (left .if2 .left) does ∙ whole (turn .before .before .before .before));
+      answered = rw (c .refused3 .ensures) (end ∙ whole (turn .before .before .before .before));
       beyond = does .beyond ∙ so-far .beyond;
     }
 

@@ -2,6 +2,7 @@
 use Prim.Native.Nat.{ℕ}
 use native.Mathlib.Omega.{arith}
 use borrow.Author.Needs.{needs}
+use mathlib.Core.Bool.{false}
 use mathlib.Core.List.{List}
 use mathlib.Core.Path.{_≡_, sym, _∙_}
 use mir.Syntax.{w32}
@@ -23,42 +24,40 @@ unwind-requires c κs = unwindable (c .before .before .before .before .before .p
 
 returns : tie.Need-returns
 returns c =
-    let unwinds = c .before .before in
-    let s = unwinds .before .before .before .before in
-    unwound (s .pre) (unwinds .if1 .taken) (s .args .schedule .now) (c .unwind .ensures)
+    let s = c .before .before .before .before .before .before in
+    unwound (s .pre) (c .before .before .if1 .taken) (s .args .schedule .now) (c .unwind .ensures)
 
 -- ---- cut
 
 returns-2 : tie.Need-returns-2
 returns-2 c =
-    let runs = c .before .before .before in
-    let s = runs .before .before .before .before in
+    let begun = c .before .before .before .before .before .before .before in
     rw (c .onward .ensures)
-    (cut (s .pre) (runs .if1 .left) (s .args .schedule .now)
+    (cut (begun .pre) (c .before .before .before .if1 .left) (begun .args .schedule .now)
     (sym (c .before .if2 .taken) ∙ c .before .before .strikes .ensures))
 
 -- ---- carried out
 
 at-requires : tie.Need-at-requires
 at-requires c κs =
-    let runs = c .before .before in
-    omega (arith, here (runs .before .before .before .before .pre) (runs .if1 .left) .below)
+    let s = c .before .before .before .before .before .before in
+    omega (arith, here (s .pre) (c .before .before .if1 .left) .below)
+
+runs : (c : tie.After-at) → c .before .before .before .before .before .before .before .args .self .unwinding ≡ false
+runs c = c .before .before .before .if1 .left
 
 able : (c : tie.After-at) →
     let s = c .before .before .before .before .before .before .before .args in Ready (s .stack .now) (s .self)
-able c =
-    let runs = c .before .before .before in
-    ready (runs .before .before .before .before .pre) (runs .if1 .left)
+able c = ready (c .before .before .before .before .before .before .before .pre) (runs c)
 
 -- what is done by the instruction's rule is done by the step's
 carried : (c : tie.After-at) {x : Instruction} {r : Step} {after : List ℕ}
     → let s = c .before .before .before .before .before .before .before .args in c .at .result ≡ x
     → Carries x (s .stack .now) (s .self) r after → Steps (s .code .now) (s .schedule .now) (s .stack .now) (s .self) r after
 carried c told does =
-    let runs = c .before .before .before in
-    let s = runs .before .before .before .before in
+    let s = c .before .before .before .before .before .before .before in
     let uncut = sym (c .before .if2 .left) ∙ c .before .before .strikes .ensures in
-    carried-out (s .pre) (runs .if1 .left) (s .args .schedule .now) uncut (sym told ∙ c .at .ensures .0) does
+    carried-out (s .pre) (runs c) (s .args .schedule .now) uncut (sym told ∙ c .at .ensures .0) does
 
 push-requires : tie.Need-push-requires
 unfolding handlerOf
@@ -126,11 +125,8 @@ pub step-spec : {M : Type 1} → statement M
 step-spec =
     tie.close
     (tie.spec
-    unwind-requires
-    (search needs)
-    returns
-    (search needs) (search needs)
-    returns-2
+    unwind-requires (search needs) returns
+    (search needs) (search needs) returns-2
     at-requires
     (search needs)
     push-requires
