@@ -1,12 +1,13 @@
 //! Buffers to lend, between pages that may not be touched: a read or a write past the one end, or before the other, stops the
-//! program at once. Towards the other end guard bytes stand, which must be as they were afterwards.
+//! program at once. Towards the other end, or at both, guard bytes stand, which must be as they were afterwards.
 
+use crate::worker::Buffer;
 use std::ops::Range;
 use std::ptr;
 use std::slice;
 
-/// The longest buffer that can be lent.
-pub const MOST: usize = 16 * 1024;
+/// The longest buffer that can be lent: more than twice what a length of 16 bits can say.
+pub const MOST: usize = 192 * 1024;
 
 const PAGE: usize = 4096;
 const GUARDS: usize = 64;
@@ -14,11 +15,17 @@ const GUARD: u8 = 0xc3;
 /// Between the two pages.
 const ROOM: usize = MOST + PAGE;
 
-/// The end at which a buffer meets a page that may not be touched.
-#[derive(Clone, Copy)]
-pub enum Edge {
+/// Where a buffer lies.
+#[derive(Clone, Copy, Debug, PartialEq)]
+pub enum Place {
+    /// It begins at the end of a page that may not be touched.
     Front,
+    /// It ends at the beginning of one.
     Back,
+    /// Guard bytes stand on both sides, and it begins so many bytes past a multiple of 8.
+    Amid(usize),
+    /// It has no bytes, and its pointer is null.
+    Null,
 }
 
 pub struct Lent {
@@ -66,19 +73,29 @@ impl Lent {
         }
     }
 
-    /// A buffer with these bytes, at an edge.
-    pub fn lend(&mut self, bytes: &[u8], edge: Edge) -> &mut [u8] {
+    /// A buffer with these bytes, at a place. It is lent until the next one is, or this value is dropped.
+    pub fn lend(&mut self, bytes: &[u8], place: Place) -> Buffer {
         let length = bytes.len();
         assert!(length <= MOST);
-        self.lent = match edge {
-            Edge::Front => 0..length,
-            Edge::Back => ROOM - length..ROOM,
+        self.lent = match place {
+            Place::Front => 0..length,
+            Place::Back => ROOM - length..ROOM,
+            Place::Amid(offset) => GUARDS + offset..GUARDS + offset + length,
+            Place::Null => {
+                assert_eq!(length, 0, "bytes have to lie somewhere");
+                0..0
+            }
         };
         for guards in self.guards() {
             self.room()[guards].fill(GUARD);
         }
         self.lent_bytes().copy_from_slice(bytes);
-        self.lent_bytes()
+        let start = match place {
+            Place::Null => ptr::null_mut(),
+            // SAFETY: in the room, or at its end.
+            _ => unsafe { self.front.add(self.lent.start) },
+        };
+        Buffer { start, length }
     }
 
     /// Whether the buffer now has just these bytes, with every guard byte around it as it was.

@@ -1,9 +1,12 @@
 //! The proved library and the baseline beside the second program, on the same inputs.
 
 pub mod chance;
+pub mod hex;
 pub mod layout;
 pub mod lent;
 pub mod parts;
+pub mod piped;
+pub mod places;
 pub mod recipes;
 pub mod tally;
 pub mod trial;

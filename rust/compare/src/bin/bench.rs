@@ -7,7 +7,7 @@ use compare::chance::Chance;
 use compare::layout;
 use compare::parts::{CODE, STACK};
 use compare::recipes::Shape;
-use compare::worker::{Worker, BASELINE, LIBRARY};
+use compare::worker::{Buffer, Worker, BASELINE, LIBRARY};
 use std::hint::black_box;
 use std::time::Instant;
 
@@ -95,7 +95,9 @@ impl Set {
         let mut code = vec![0; CODE];
         measured(WORK / NODES, self.tables.len() * self.nodes, |worker| {
             for table in &self.tables {
-                black_box((worker.compile)(black_box(table), black_box(&mut code)));
+                let (table, code) = (Buffer::to_read(table), Buffer::of(&mut code));
+                // SAFETY: two slices, which the worker reads and writes as it may.
+                black_box(unsafe { (worker.compile)(black_box(table), black_box(code)) });
             }
         })
     }
@@ -112,7 +114,10 @@ impl Set {
             .sum();
         measured(WORK / steps, steps, |worker| {
             for (code, schedule) in &runs {
-                black_box((worker.run)(1, black_box(code), black_box(schedule), black_box(&mut stack)));
+                let (code, schedule) = (Buffer::to_read(code), Buffer::to_read(schedule));
+                let stack = Buffer::of(&mut stack);
+                // SAFETY: three slices, which the worker reads and writes as it may.
+                black_box(unsafe { (worker.run)(1, black_box(code), black_box(schedule), black_box(stack)) });
             }
         })
     }
