@@ -1,15 +1,19 @@
-//! compare quick REHEARSE [SEED]             what `make test` tries, in less than a minute; REHEARSE is the rehearsal program
+//! compare quick REHEARSE CASES [SEED]       what `make test` tries, in less than a minute; the two are the programs of these names
 //! compare long N [SEED]                     recipes of a node more, and rounds until N inputs are tried, with a line of progress
 //! compare round SEED NUMBER                 one round once more
 //! compare rehearsal REHEARSE SEED NUMBER    one rehearsal once more
+//! compare evaluation CASES SEED NUMBER      one evaluation once more
+//! compare touch PLACE HOW                   reads or writes the byte beside a buffer, which stops it (front, back) or not (amid)
 //!
 //! The last line is 'N passed, M failed'. A word that is not understood is told on standard error, and the exit status is 2.
 
 mod arguments;
 mod report;
 mod threads;
+mod touch;
 
 use arguments::{Task, USAGE};
+use compare::parts::evaluation::{self, Case};
 use compare::parts::{rehearsal, rounds, small, Part, FIXED};
 use compare::tally::Tally;
 use compare::trial::Trial;
@@ -22,17 +26,22 @@ use std::process::ExitCode;
 pub const WORKERS: [Worker; 2] = [LIBRARY, BASELINE];
 /// Inputs of the quick part's rounds.
 const QUICK: u64 = 3_000_000;
-/// Inputs of the rehearsal program.
+/// Inputs of the rehearsal program, and tables for the evaluation.
 const REHEARSALS: u64 = 400;
+const EVALUATIONS: u64 = 4_000;
+/// So many of these at least end in a number, in a throw, and in a refusal.
+const OF_EACH_KIND: u64 = 500;
 
 fn main() -> ExitCode {
     let words: Vec<String> = std::env::args().skip(1).collect();
     let words: Vec<&str> = words.iter().map(String::as_str).collect();
     match arguments::task(&words) {
-        Ok(Task::Quick { rehearse, seed }) => quick(&rehearse, seed),
+        Ok(Task::Quick { rehearse, cases, seed }) => quick(&rehearse, &cases, seed),
         Ok(Task::Long { inputs, seed }) => tried(Report::default(), small::FIVE, inputs, seed),
         Ok(Task::Round { seed, number }) => one_round(seed, number),
         Ok(Task::Rehearsal { program, seed, number }) => one_rehearsal(&program, seed, number),
+        Ok(Task::Evaluation { program, seed, number }) => one_evaluation(&program, seed, number),
+        Ok(Task::Touch { place, touched }) => touch::touch(place, touched),
         Err(sentence) => {
             eprintln!("compare: {sentence}\n{USAGE}");
             ExitCode::from(2)
@@ -40,10 +49,13 @@ fn main() -> ExitCode {
     }
 }
 
-fn quick(rehearse: &str, seed: u64) -> ExitCode {
+fn quick(rehearse: &str, cases: &str, seed: u64) -> ExitCode {
     let mut report = Report::default();
     wrong_workers(&mut report);
+    touched_pages(&mut report);
     rehearsals(&mut report, rehearse, 0..REHEARSALS, seed);
+    evaluations(&mut report, cases, 0..EVALUATIONS, seed);
+    kinds_of_evaluations(&mut report, seed);
     tried(report, small::FOUR, QUICK, seed)
 }
 
@@ -56,6 +68,12 @@ fn one_round(seed: u64, number: u64) -> ExitCode {
 fn one_rehearsal(program: &str, seed: u64, number: u64) -> ExitCode {
     let mut report = Report::default();
     rehearsals(&mut report, program, number..number + 1, seed);
+    report.end()
+}
+
+fn one_evaluation(program: &str, seed: u64, number: u64) -> ExitCode {
+    let mut report = Report::default();
+    evaluations(&mut report, program, number..number + 1, seed);
     report.end()
 }
 
@@ -86,6 +104,18 @@ fn wrong_workers(report: &mut Report) {
     }
 }
 
+/// A page beside a buffer stops what touches it, and guard bytes do not.
+fn touched_pages(report: &mut Report) {
+    for place in ["front", "back", "amid"] {
+        for touched in ["read", "write"] {
+            let stops = place != "amid";
+            let stopped = touch::stopped(place, touched).is_ok_and(|stopped| stopped == stops);
+            let what = if stops { "is stopped" } else { "goes on" };
+            report.check(&format!("{place}: a {touched} beside a buffer {what}"), stopped);
+        }
+    }
+}
+
 fn rehearsals(report: &mut Report, program: &str, numbers: std::ops::Range<u64>, seed: u64) {
     let mut tried = 0;
     let mut differences = Vec::new();
@@ -95,4 +125,24 @@ fn rehearsals(report: &mut Report, program: &str, numbers: std::ops::Range<u64>,
         differences.extend(differs.map(|how| format!("seed {seed} rehearsal {number}: {how}")));
     }
     report.piped("rehearsals by pipe", tried, &differences);
+}
+
+fn evaluations(report: &mut Report, program: &str, numbers: std::ops::Range<u64>, seed: u64) {
+    let mut tried = 0;
+    let mut differences = Vec::new();
+    for batch in evaluation::batches(numbers.map(|number| Case::numbered(seed, number))) {
+        tried += batch.len() as u64;
+        let found = evaluation::differences(program, &batch);
+        differences.extend(found.into_iter().map(|how| format!("seed {seed} {how}")));
+    }
+    report.piped("evaluations by pipe", tried, &differences);
+}
+
+fn kinds_of_evaluations(report: &mut Report, seed: u64) {
+    let cases: Vec<Case> = (0..EVALUATIONS).map(|number| Case::numbered(seed, number)).collect();
+    let [numbers, throws, refusals] = evaluation::kinds(&cases);
+    report.check(
+        &format!("evaluations of every kind: {numbers} numbers, {throws} throws, {refusals} refusals"),
+        [numbers, throws, refusals].iter().all(|&met| met >= OF_EACH_KIND),
+    );
 }

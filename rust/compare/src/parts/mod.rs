@@ -4,6 +4,7 @@ pub mod alignment;
 pub mod beyond;
 pub mod damage;
 pub mod demand;
+pub mod evaluation;
 pub mod foreign;
 pub mod lengths;
 pub mod limit;
