@@ -1,5 +1,6 @@
 //! The proved library and the baseline beside the second program, on the same inputs.
 
+pub mod caught;
 pub mod chance;
 pub mod hex;
 pub mod layout;
