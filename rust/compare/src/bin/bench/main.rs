@@ -16,7 +16,7 @@ use std::process::ExitCode;
 
 const SIZES: [usize; 4] = [8, 32, 128, 512];
 /// With sixteen sides at a time.
-const SAMPLES_BESIDE: usize = 15;
+const SAMPLES_BESIDE: usize = 25;
 
 fn main() -> ExitCode {
     let words: Vec<String> = std::env::args().skip(1).collect();
@@ -85,7 +85,8 @@ fn beside(words: &[String]) -> Result<(), String> {
     if old.is_empty() || old.len() != new.len() {
         return Err("there are not as many shared objects of the one library as of the other".to_string());
     }
-    let sides: Vec<Side> = old.iter().chain(new).map(|path| Side::loaded(path)).collect::<Result<_, _>>()?;
+    let pairs = old.iter().zip(new).flat_map(|(old, new)| [old, new]);
+    let sides: Vec<Side> = pairs.map(|path| Side::loaded(path)).collect::<Result<_, _>>()?;
     println!(
         "The new library's time by the old one's: compile, run quiet, run recalled; each at {} places.",
         old.len()
@@ -108,9 +109,9 @@ fn beside(words: &[String]) -> Result<(), String> {
     Ok(())
 }
 
-/// Of the times of the old sides and then of as many new ones.
+/// Of the times of an old side, a new one, an old one, and so on.
 fn new_by_old(times: &Times) -> f64 {
-    let (old, new) = times.split_at(times.len() / 2);
-    let [old, new] = [old, new].map(|half| mean(half.iter().map(|times| median(times.iter().copied()))));
+    let [old, new] = [0, 1]
+        .map(|first| mean(times.iter().skip(first).step_by(2).map(|times| median(times.iter().copied()))));
     new / old
 }
