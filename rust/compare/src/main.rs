@@ -8,13 +8,13 @@
 //! The last line is 'N passed, M failed'. A word that is not understood is told on standard error, and the exit status is 2.
 
 mod arguments;
+mod pipes;
 mod report;
 mod threads;
 mod touch;
 
 use arguments::{Task, USAGE};
-use compare::parts::evaluation::{self, Case};
-use compare::parts::{rehearsal, rounds, small, Part, FIXED};
+use compare::parts::{rounds, small, Part, FIXED};
 use compare::tally::Tally;
 use compare::trial::Trial;
 use compare::worker::{Worker, BASELINE, LIBRARY};
@@ -26,11 +26,6 @@ use std::process::ExitCode;
 pub const WORKERS: [Worker; 2] = [LIBRARY, BASELINE];
 /// Inputs of the quick part's rounds.
 const QUICK: u64 = 3_000_000;
-/// Inputs of the rehearsal program, and tables for the evaluation.
-const REHEARSALS: u64 = 400;
-const EVALUATIONS: u64 = 4_000;
-/// So many of these at least end in a number, in a throw, and in a refusal.
-const OF_EACH_KIND: u64 = 500;
 
 fn main() -> ExitCode {
     let words: Vec<String> = std::env::args().skip(1).collect();
@@ -53,9 +48,7 @@ fn quick(rehearse: &str, cases: &str, seed: u64) -> ExitCode {
     let mut report = Report::default();
     wrong_workers(&mut report);
     touched_pages(&mut report);
-    rehearsals(&mut report, rehearse, 0..REHEARSALS, seed);
-    evaluations(&mut report, cases, 0..EVALUATIONS, seed);
-    kinds_of_evaluations(&mut report, seed);
+    pipes::all(&mut report, rehearse, cases, seed);
     tried(report, small::FOUR, QUICK, seed)
 }
 
@@ -67,13 +60,13 @@ fn one_round(seed: u64, number: u64) -> ExitCode {
 
 fn one_rehearsal(program: &str, seed: u64, number: u64) -> ExitCode {
     let mut report = Report::default();
-    rehearsals(&mut report, program, number..number + 1, seed);
+    pipes::rehearsals(&mut report, program, seed, number..=number);
     report.end()
 }
 
 fn one_evaluation(program: &str, seed: u64, number: u64) -> ExitCode {
     let mut report = Report::default();
-    evaluations(&mut report, program, number..number + 1, seed);
+    pipes::evaluations(&mut report, program, seed, number..=number);
     report.end()
 }
 
@@ -114,35 +107,4 @@ fn touched_pages(report: &mut Report) {
             report.check(&format!("{place}: a {touched} beside a buffer {what}"), stopped);
         }
     }
-}
-
-fn rehearsals(report: &mut Report, program: &str, numbers: std::ops::Range<u64>, seed: u64) {
-    let mut tried = 0;
-    let mut differences = Vec::new();
-    for number in numbers {
-        tried += 1;
-        let differs = rehearsal::differs(program, &rehearsal::numbered(seed, number));
-        differences.extend(differs.map(|how| format!("seed {seed} rehearsal {number}: {how}")));
-    }
-    report.piped("rehearsals by pipe", tried, &differences);
-}
-
-fn evaluations(report: &mut Report, program: &str, numbers: std::ops::Range<u64>, seed: u64) {
-    let mut tried = 0;
-    let mut differences = Vec::new();
-    for batch in evaluation::batches(numbers.map(|number| Case::numbered(seed, number))) {
-        tried += batch.len() as u64;
-        let found = evaluation::differences(program, &batch);
-        differences.extend(found.into_iter().map(|how| format!("seed {seed} {how}")));
-    }
-    report.piped("evaluations by pipe", tried, &differences);
-}
-
-fn kinds_of_evaluations(report: &mut Report, seed: u64) {
-    let cases: Vec<Case> = (0..EVALUATIONS).map(|number| Case::numbered(seed, number)).collect();
-    let [numbers, throws, refusals] = evaluation::kinds(&cases);
-    report.check(
-        &format!("evaluations of every kind: {numbers} numbers, {throws} throws, {refusals} refusals"),
-        [numbers, throws, refusals].iter().all(|&met| met >= OF_EACH_KIND),
-    );
 }

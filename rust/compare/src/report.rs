@@ -24,15 +24,15 @@ impl Report {
         self.whole.add(tally);
     }
 
-    /// Programs by pipe: so many inputs, and the differences, of which the first are told.
+    /// A program by pipe: so many inputs, and the differences, of which the first are told.
     pub fn piped(&mut self, name: &str, inputs: u64, differences: &[String]) {
         for told in differences.iter().take(TOLD) {
             println!("{told}");
         }
-        self.check(
-            &format!("{name}: {inputs} inputs, {} differences", differences.len()),
-            differences.is_empty(),
-        );
+        let found = differences.len() as u64;
+        self.check(&format!("{name}: {inputs} inputs, {found} differences"), inputs > 0 && found == 0);
+        self.whole.inputs += inputs;
+        self.whole.differences += found;
     }
 
     pub fn check(&mut self, what: &str, holds: bool) {

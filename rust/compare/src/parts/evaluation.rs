@@ -54,7 +54,7 @@ impl Case {
         script + &format!("compile {}\n", self.room)
     }
 
-    /// What the second program says of it.
+    /// The line that the second program wants of it.
     fn wanted(&self) -> String {
         let compiled = second::compile(&self.table, &mut vec![0; self.room]);
         let answer = match compiled.refusal {
@@ -64,11 +64,15 @@ impl Case {
             }
             refusal => format!("refused {refusal} at {}, buffer untouched", compiled.place),
         };
-        let quiet = match table::read(&self.table) {
+        format!("{}: {answer}, quiet {}", self.number, self.quiet())
+    }
+
+    /// Its end when no recall comes, or its refusal.
+    pub fn quiet(&self) -> String {
+        match table::read(&self.table) {
             Ok(recipe) => quiet(&recipe),
             Err(refusal) => format!("refused {} at {}", refusal.number(), refusal.place),
-        };
-        format!("{}: {answer}, quiet {quiet}", self.number)
+        }
     }
 }
 
@@ -90,13 +94,6 @@ fn quiet(recipe: &Expression) -> String {
         },
         _ => format!("ends that the second program does not agree on: {ends:?}"),
     }
-}
-
-/// How many of these cases end in a number, in a throw, and in a refusal.
-pub fn kinds(batch: &[Case]) -> [u64; 3] {
-    let wanted: Vec<String> = batch.iter().map(Case::wanted).collect();
-    ["quiet number", "quiet throw", "quiet refused"]
-        .map(|kind| wanted.iter().filter(|line| line.contains(kind)).count() as u64)
 }
 
 /// Cases in batches, each as long a script as the program reads.
