@@ -2,8 +2,9 @@
 //! a length of which only the low bits are looked at is found out, from 13 bits to 17.
 
 use super::foreign::{record, POP, PUSH};
-use super::lengths::{openings, tower};
+use super::lengths::openings;
 use super::{Part, CODE, STACK};
+use crate::layout::tower;
 use crate::lent::MOST;
 use crate::trial::Trial;
 
@@ -27,6 +28,7 @@ pub fn all(trial: &mut Trial) {
 /// The front of each is a table too.
 fn tables(trial: &mut Trial, over: usize) {
     let tower = tower(MOST / 8);
+    let tower = tower.as_flattened();
     for small in [0, 1, 7, 8, 9, 16, 24, 256, 2048, 4088, 4096, 4104] {
         let compiled = trial.compile(&tower[..over + small], CODE);
         trial.claim("a table has at most 4,096 bytes", compiled.refusal == 1);
@@ -39,7 +41,7 @@ fn code_buffers(trial: &mut Trial, over: usize) {
     for nodes in [1, 2, 3, 16, 100, 256, 511, 512] {
         let exact = 8 * (2 * nodes - 1);
         for small in [0, 1, exact / 2, exact - 1, exact] {
-            let compiled = trial.compile(&tower[..8 * nodes], over + small);
+            let compiled = trial.compile(tower[..nodes].as_flattened(), over + small);
             trial.claim("a code buffer may have any length", compiled.refusal == 0);
         }
     }
@@ -89,10 +91,11 @@ fn recalls_past_all(trial: &mut Trial, over: usize) {
 
 /// As long as can be lent, and all of them good but for the table's or the code's length.
 fn everything_at_once(trial: &mut Trial) {
-    let long = tower(MOST / 8);
+    let tower = tower(MOST / 8);
+    let long = tower.as_flattened();
     for bytes in [8, 4096, 1 << 16, (1 << 16) + 8, MOST] {
         trial.compile(&long[..bytes], MOST);
-        trial.run(0, &long[..bytes], &long, MOST);
+        trial.run(0, &long[..bytes], long, MOST);
         trial.run(1, &record(PUSH, 9), &vec![0xff; bytes], MOST);
     }
 }

@@ -2,7 +2,7 @@
 
 use super::foreign::{record, POP, PUSH};
 use super::{Part, AMPLE, CODE, STACK};
-use crate::layout::Nodes;
+use crate::layout::{tower, Nodes};
 use crate::trial::Trial;
 use second::expression::Expression::{Unblock, Val};
 
@@ -20,18 +20,9 @@ pub fn all(trial: &mut Trial) {
     schedules(trial);
 }
 
-/// A Val and Blocks, each over the one before, so many records: the front of it, cut at a record, is a table too.
-pub fn tower(records: usize) -> Vec<u8> {
-    let block = |below: usize| {
-        let [low, high] = (below as u16).to_le_bytes();
-        [6, 0, low, high, 0, 0, 0, 0]
-    };
-    let blocks = (0..records - 1).map(block);
-    [[1, 0, 0, 0, 9, 0, 0, 0]].into_iter().chain(blocks).flatten().collect()
-}
-
 fn tables(trial: &mut Trial) {
     let tower = tower(MANY);
+    let tower = tower.as_flattened();
     for bytes in 0..=tower.len() {
         let compiled = trial.compile(&tower[..bytes], CODE);
         let whole = bytes % 8 == 0 && (8..=4096).contains(&bytes);
@@ -44,7 +35,7 @@ fn code_buffers(trial: &mut Trial) {
     for nodes in 1..=512 {
         let exact = 8 * (2 * nodes - 1);
         for room in [0, exact - 8, exact - 7, exact - 1, exact, exact + 1, exact + 8, AMPLE] {
-            let compiled = trial.compile(&tower[..8 * nodes], room);
+            let compiled = trial.compile(tower[..nodes].as_flattened(), room);
             trial.claim("8 bytes an instruction are enough", (compiled.refusal == 0) == (room >= exact));
         }
     }

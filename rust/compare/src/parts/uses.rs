@@ -1,14 +1,12 @@
 //! Tables in which a node is used too often, by every count up to the most there is room for, or never.
 
 use super::{Part, CODE};
+use crate::layout::{record, tower, ADD, BLOCK, VAL};
 use crate::trial::Trial;
 
 pub const USES: Part = Part { name: "nodes used more than once", floor: 4_600, tries: all };
 
 const NODES: usize = 512;
-const VAL: u8 = 1;
-const ADD: u8 = 3;
-const BLOCK: u8 = 6;
 /// Leaves of the tables in which one node takes the place of another.
 const LEAVES: usize = 16;
 
@@ -34,7 +32,7 @@ pub fn all(trial: &mut Trial) {
 /// One node is used so many times, and each other but the last once: Blocks over a Val below it; Adds, each of it and of the Add
 /// before; and Blocks above.
 fn shared(trial: &mut Trial, below: usize, uses: usize, above: usize) {
-    let mut table = tower(below);
+    let mut table = tower(below + 1);
     let node = below;
     match uses {
         0 => table.push(record(VAL, 0, 0)),
@@ -53,7 +51,7 @@ fn shared(trial: &mut Trial, below: usize, uses: usize, above: usize) {
 /// One node is used so many times, and those after it never: each of them is an Add of it with itself, and the last a Block where
 /// the count is odd.
 fn only_used(trial: &mut Trial, below: usize, uses: usize) {
-    let mut table = tower(below);
+    let mut table = tower(below + 1);
     let node = below;
     table.extend((0..uses / 2).map(|_| record(ADD, node, node)));
     table.extend((0..uses % 2).map(|_| record(BLOCK, node, 0)));
@@ -76,18 +74,6 @@ fn exchanged(trial: &mut Trial, twice: usize, never: usize) {
     let field = if never == 0 { 2 } else { 4 };
     table[user][field..field + 2].copy_from_slice(&(twice as u16).to_le_bytes());
     compile(trial, &table, Some(twice.min(never)));
-}
-
-/// A Val under so many Blocks.
-fn tower(blocks: usize) -> Vec<[u8; 8]> {
-    let mut table = vec![record(VAL, 0, 0)];
-    table.extend((0..blocks).map(|below| record(BLOCK, below, 0)));
-    table
-}
-
-fn record(kind: u8, left: usize, right: usize) -> [u8; 8] {
-    let ([a, b], [c, d]) = ((left as u16).to_le_bytes(), (right as u16).to_le_bytes());
-    [kind, 0, a, b, c, d, 0, 0]
 }
 
 /// Where it is not too long, with the refusal 5 at this node, or none.
