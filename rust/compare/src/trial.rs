@@ -8,6 +8,7 @@ use crate::tally::Tally;
 use crate::worker::Worker;
 use second::{Answer, Compiled};
 use std::fmt::Debug;
+use std::panic::{self, AssertUnwindSafe};
 
 pub struct Trial {
     workers: Vec<Worker>,
@@ -52,8 +53,8 @@ impl Trial {
             let lent_table = self.table.lend(table, places.table);
             let lent_code = self.code.lend(&self.fresh[..room], places.code);
             // SAFETY: both are lent apart, and may be written as far as the guards reach.
-            let given = unsafe { (worker.compile)(lent_table, lent_code) };
-            let same = given == answer && self.code.holds(wanted) && self.table.holds(table);
+            let given = unless_panicked(|| unsafe { (worker.compile)(lent_table, lent_code) });
+            let same = given == Some(answer) && self.code.holds(wanted) && self.table.holds(table);
             if !same {
                 self.tally.differs(|| {
                     format!(
@@ -86,8 +87,9 @@ impl Trial {
             let lent_schedule = self.schedule.lend(schedule, places.schedule);
             let lent_stack = self.stack.lend(&self.fresh[..room], places.stack);
             // SAFETY: the three are lent apart, and may be written as far as the guards reach.
-            let given = unsafe { (worker.run)(status, lent_code, lent_schedule, lent_stack) };
-            let same = given == answer
+            let given =
+                unless_panicked(|| unsafe { (worker.run)(status, lent_code, lent_schedule, lent_stack) });
+            let same = given == Some(answer)
                 && self.stack.holds(wanted)
                 && self.code.holds(code)
                 && self.schedule.holds(schedule);
@@ -107,6 +109,10 @@ impl Trial {
         answer
     }
 
+    pub fn workers(&self) -> Vec<Worker> {
+        self.workers.clone()
+    }
+
     /// A claim about answers, beside that they are the same.
     pub fn claim(&mut self, what: &str, holds: bool) {
         if !holds {
@@ -119,7 +125,13 @@ impl Trial {
     }
 }
 
-fn difference<A: Debug>(wanted: &A, given: &A, buffer_wanted: &[u8], buffer: &[u8]) -> String {
+/// A worker's answer, unless it panics; its message stands on standard error then.
+fn unless_panicked<A>(call: impl FnOnce() -> A) -> Option<A> {
+    // a worker keeps nothing between calls, and the buffers are filled anew before each
+    panic::catch_unwind(AssertUnwindSafe(call)).ok()
+}
+
+fn difference<A: Debug>(wanted: &A, given: &Option<A>, buffer_wanted: &[u8], buffer: &[u8]) -> String {
     let byte = match (0..buffer.len()).find(|&k| buffer[k] != buffer_wanted[k]) {
         Some(k) => format!("byte {k} of the buffer: {:02x}, wanted {:02x}", buffer[k], buffer_wanted[k]),
         None => {
@@ -127,5 +139,6 @@ fn difference<A: Debug>(wanted: &A, given: &A, buffer_wanted: &[u8], buffer: &[u
                 .to_string()
         }
     };
-    format!("  wanted {wanted:?}\n  given  {given:?}\n  {byte}")
+    let given = given.as_ref().map_or("a panic".to_string(), |given| format!("{given:?}"));
+    format!("  wanted {wanted:?}\n  given  {given}\n  {byte}")
 }

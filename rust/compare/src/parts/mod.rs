@@ -17,6 +17,7 @@ pub mod sides;
 pub mod small;
 pub mod statuses;
 pub mod uses;
+pub mod vast;
 
 use crate::trial::Trial;
 
@@ -36,10 +37,11 @@ pub struct Part {
 }
 
 /// Those whose inputs no seed decides.
-pub const FIXED: [Part; 12] = [
+pub const FIXED: [Part; 13] = [
     damage::BYTE_BY_BYTE,
     lengths::LENGTHS,
     beyond::BEYOND,
+    vast::VAST,
     limit::LIMIT,
     uses::USES,
     records::RECORDS,

@@ -6,10 +6,11 @@ use super::{compiler, runner, Wrong, RIGHT};
 use crate::parts::beyond::BEYOND;
 use crate::parts::statuses::STATUSES;
 use crate::parts::uses::USES;
+use crate::parts::vast::VAST;
 use crate::worker::Buffer;
 use second::Compiled;
 
-pub const WRONG: [Wrong; 8] = [
+pub const WRONG: [Wrong; 13] = [
     compiler("counts uses in 8 bits", &[USES], |table, code| unsafe { few_uses(table, code) }),
     compiler("takes the table's length in 16 bits", &[BEYOND], |table, code| unsafe {
         (RIGHT.compile)(short(table), code)
@@ -26,6 +27,21 @@ pub const WRONG: [Wrong; 8] = [
     runner("takes the stack buffer's length in 16 bits", &[BEYOND], |status, code, schedule, stack| unsafe {
         (RIGHT.run)(status, code, schedule, short(stack))
     }),
+    compiler("takes the table's length in 32 bits", &[VAST], |table, code| unsafe {
+        (RIGHT.compile)(shorter(table), code)
+    }),
+    compiler("takes the code buffer's length in 32 bits", &[VAST], |table, code| unsafe {
+        (RIGHT.compile)(table, shorter(code))
+    }),
+    runner("takes the code's length in 32 bits", &[VAST], |status, code, schedule, stack| unsafe {
+        (RIGHT.run)(status, shorter(code), schedule, stack)
+    }),
+    runner("takes the schedule's length in 32 bits", &[VAST], |status, code, schedule, stack| unsafe {
+        (RIGHT.run)(status, code, shorter(schedule), stack)
+    }),
+    runner("takes the stack buffer's length in 32 bits", &[VAST], |status, code, schedule, stack| unsafe {
+        (RIGHT.run)(status, code, schedule, shorter(stack))
+    }),
     runner("takes the status in 2 bits", &[STATUSES], |status, code, schedule, stack| unsafe {
         (RIGHT.run)(status & 3, code, schedule, stack)
     }),
@@ -34,9 +50,13 @@ pub const WRONG: [Wrong; 8] = [
     }),
 ];
 
-/// The front that is left of a buffer whose length is kept in 16 bits.
+/// The front that is left of a buffer whose length is kept in 16 bits, or in 32.
 pub fn short(buffer: Buffer) -> Buffer {
     Buffer { length: usize::from(buffer.length as u16), ..buffer }
+}
+
+fn shorter(buffer: Buffer) -> Buffer {
+    Buffer { length: buffer.length as u32 as usize, ..buffer }
 }
 
 /// Refusal 5 by counts of 8 bits; where they show no fault, the table is taken for one whose code has no instruction.

@@ -12,7 +12,7 @@ use second::{Answer, Compiled};
 
 const ROUNDS: &[Part] = &[FIRST];
 
-pub const WRONG: [Wrong; 17] = [
+pub const WRONG: [Wrong; 18] = [
     compiler("refuses all tables", ROUNDS, |_, _| Compiled { length: 0, refusal: 1, place: 0 }),
     compiler("refuses by a number that no table has", ROUNDS, |table, code| {
         let compiled = unsafe { (RIGHT.compile)(table, code) };
@@ -20,6 +20,14 @@ pub const WRONG: [Wrong; 17] = [
             0 => compiled,
             _ => Compiled { refusal: u32::MAX, ..compiled },
         }
+    }),
+    compiler("panics where it would refuse", ROUNDS, |table, code| {
+        let compiled = unsafe { (RIGHT.compile)(table, code) };
+        if compiled.refusal == 5 {
+            // without the message of a panic
+            std::panic::resume_unwind(Box::new(()));
+        }
+        compiled
     }),
     compiler("tests the kinds of all nodes first", &[RECORDS], |table, code| {
         let compiled = unsafe { (RIGHT.compile)(table, code) };
