@@ -8,6 +8,7 @@
 //! The last line is 'N passed, M failed'. A word that is not understood is told on standard error, and the exit status is 2.
 
 mod arguments;
+mod misunderstood;
 mod pipes;
 mod report;
 mod threads;
@@ -48,6 +49,7 @@ fn quick(rehearse: &str, cases: &str, seed: u64) -> ExitCode {
     let mut report = Report::default();
     wrong_workers(&mut report);
     touched_pages(&mut report);
+    misunderstood::all(&mut report);
     pipes::all(&mut report, rehearse, cases, seed);
     tried(report, small::FOUR, QUICK, seed)
 }
@@ -85,14 +87,18 @@ fn tally(tries: impl FnOnce(&mut Trial)) -> Tally {
     trial.tally
 }
 
-/// Each wrong worker has to be found by each part that is meant for it.
+/// Each wrong worker has to be found by each part that is meant for it, and some part is.
 fn wrong_workers(report: &mut Report) {
     for wrong in wrong::all() {
+        let name = wrong.worker.name;
+        if wrong.found_by.is_empty() {
+            report.check(&format!("a worker that {name} has a part that is meant for it"), false);
+        }
         for part in wrong.found_by {
             let mut trial = Trial::new(&[wrong.worker]);
             (part.tries)(&mut trial);
-            let what = format!("a worker that {} is found out: {}", wrong.worker.name, part.name);
-            report.check(&what, trial.tally.differences > 0);
+            let found = trial.tally.differences > 0;
+            report.check(&format!("a worker that {name} is found out: {}", part.name), found);
         }
     }
 }

@@ -46,14 +46,14 @@ fn sizes(words: &[String]) -> Result<Vec<usize>, String> {
 
 fn beside_the_baseline(sizes: &[usize]) {
     println!("The library beside the baseline: nanoseconds of the library, and its time by the baseline's.");
-    println!("{:18}   {:16}  {:16}  run, recalled", "", "compile", "run, quiet");
+    println!("{:19}   {:16}  {:16}  run, recalled", "", "compile", "run, quiet");
     let columns = "   a node   ratio".to_string() + &"   a step   ratio".repeat(2);
-    println!("{:12} {:>5}{columns}   recalls a run", "shape", "nodes");
+    println!("{:12} {:>6}{columns}   recalls a run", "shape", "nodes");
     for outline in OUTLINES {
         let rows: Vec<[f64; 3]> =
             sizes.iter().map(|&nodes| row(outline.name, &Set::new(&outline, nodes))).collect();
         if let [first, .., last] = rows.as_slice() {
-            print!("{:12} {:>5}", outline.name, "growth");
+            print!("{:12} {:>6}", outline.name, "growth");
             for (first, last) in first.iter().zip(last) {
                 print!(" {:8.2} {:7}", last / first, "");
             }
@@ -64,7 +64,7 @@ fn beside_the_baseline(sizes: &[usize]) {
 
 /// The times of the library.
 fn row(name: &str, set: &Set) -> [f64; 3] {
-    print!("{name:12} {:5}", set.nodes);
+    print!("{name:12} {:6}", set.nodes);
     let row = measure::all(set, &[LIBRARY, BASELINE], SAMPLES).map(|times| {
         let each = median(times[0].iter().copied());
         let ratio = median(times[0].iter().zip(&times[1]).map(|(library, baseline)| library / baseline));
@@ -94,7 +94,7 @@ fn beside(words: &[String]) -> Result<(), String> {
     let mut all = [vec![], vec![], vec![]];
     for outline in OUTLINES {
         for nodes in SIZES {
-            print!("{:12} {nodes:5}", outline.name);
+            print!("{:12} {nodes:6}", outline.name);
             let times = measure::all(&Set::new(&outline, nodes), &sides, SAMPLES_BESIDE);
             for (times, all) in times.iter().zip(&mut all) {
                 let ratio = new_by_old(times);
@@ -105,7 +105,7 @@ fn beside(words: &[String]) -> Result<(), String> {
         }
     }
     let [compile, quiet, recalled] = all.map(|ratios| mean(ratios.into_iter()));
-    println!("{:12} {:5} {compile:7.3} {quiet:7.3} {recalled:7.3}", "mean", "");
+    println!("{:12} {:6} {compile:7.3} {quiet:7.3} {recalled:7.3}", "mean", "");
     Ok(())
 }
 
