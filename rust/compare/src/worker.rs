@@ -22,10 +22,6 @@ pub struct Worker {
 }
 
 impl Buffer {
-    pub fn of(bytes: &mut [u8]) -> Buffer {
-        Buffer { start: bytes.as_mut_ptr(), length: bytes.len() }
-    }
-
     /// For a worker that only reads it.
     pub fn to_read(bytes: &[u8]) -> Buffer {
         Buffer { start: bytes.as_ptr().cast_mut(), length: bytes.len() }

@@ -1,9 +1,9 @@
-//! bench [NODES..]                  the library beside the baseline: compiling and running recipes of four outlines and growing size,
-//!                                  quietly and with recalls that strike all along
-//! bench beside OLD.. -- NEW..      shared objects of two libraries beside each other, as many of each (`scripts/beside`)
+//! bench [NODES..]                the library beside the baseline: compiling and running recipes of four outlines and growing
+//!                                size, quietly and with recalls that strike all along
+//! bench beside OLD.. -- NEW..    shared objects of two libraries beside each other, as many of each (`scripts/beside`)
 //!
-//! Samples are taken by turns. Beside the baseline, the median of the ratios is given, and times are medians; beside each other, the
-//! means of the medians. A word that is not understood is told on standard error, and the exit status is 2.
+//! Samples are taken by turns. Beside the baseline, the median of the ratios is given, and times are medians; of two libraries,
+//! the ratio of the means of the medians. A word that is not understood is told on standard error, and the exit status is 2.
 
 mod measure;
 mod set;
