@@ -57,10 +57,10 @@ worker: lib
 fuzz: compare
 	@target/rust/release/compare long $(N) $(SEED)
 
-# the library's time beside plain Rust's
+# the library's time beside plain Rust's; or, with OLD=archive, beside that of another archive of the library
 .PHONY: bench
 bench: compare
-	@target/rust/release/bench
+	@$(if $(OLD),scripts/beside "$(OLD)" $(LIB)/libsalnegris.a,target/rust/release/bench)
 
 .PHONY: compare
 compare: lib

@@ -3,6 +3,10 @@
 use crate::chance::Chance;
 use second::expression::Expression;
 
+pub const VAL: u8 = 1;
+pub const ADD: u8 = 3;
+pub const BLOCK: u8 = 6;
+
 /// A recipe's nodes, the left operand's first, then the right's, then the node itself.
 pub struct Nodes(Vec<Node>);
 
@@ -129,4 +133,16 @@ pub fn table(recipe: &Expression, chance: &mut Chance) -> Vec<u8> {
         _ => nodes.numbered(Next::Any, chance),
     };
     nodes.table(&numbering)
+}
+
+/// A node's record; the fields that its kind doesn't use are given as 0.
+pub fn record(kind: u8, left: usize, right: usize) -> [u8; 8] {
+    let ([a, b], [c, d]) = ((left as u16).to_le_bytes(), (right as u16).to_le_bytes());
+    [kind, 0, a, b, c, d, 0, 0]
+}
+
+/// A Val and Blocks, each over the one before: so many records, of which the first ones are a table too.
+pub fn tower(records: usize) -> Vec<[u8; 8]> {
+    let blocks = (0..records - 1).map(|below| record(BLOCK, below, 0));
+    [record(VAL, 0, 9)].into_iter().chain(blocks).collect()
 }

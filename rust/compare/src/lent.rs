@@ -1,12 +1,14 @@
 //! Buffers to lend, between pages that may not be touched: a read or a write past the one end, or before the other, stops the
-//! program at once. Towards the other end guard bytes stand, which must be as they were afterwards.
+//! program at once. Towards the other end, or at both, guard bytes stand, which must be as they were afterwards.
 
+use crate::system::Pages;
+use crate::worker::Buffer;
 use std::ops::Range;
 use std::ptr;
 use std::slice;
 
-/// The longest buffer that can be lent.
-pub const MOST: usize = 16 * 1024;
+/// The longest buffer that can be lent: more than twice what a length of 16 bits can say.
+pub const MOST: usize = 192 * 1024;
 
 const PAGE: usize = 4096;
 const GUARDS: usize = 64;
@@ -14,71 +16,54 @@ const GUARD: u8 = 0xc3;
 /// Between the two pages.
 const ROOM: usize = MOST + PAGE;
 
-/// The end at which a buffer meets a page that may not be touched.
-#[derive(Clone, Copy)]
-pub enum Edge {
+/// Where a buffer lies.
+#[derive(Clone, Copy, Debug, PartialEq)]
+pub enum Place {
+    /// It begins at the end of a page that may not be touched.
     Front,
+    /// It ends at the beginning of one.
     Back,
+    /// Guard bytes stand on both sides, and it begins so many bytes past a multiple of 8.
+    Amid(usize),
+    /// It has no bytes, and its pointer is null.
+    Null,
 }
 
 pub struct Lent {
-    front: *mut u8,
+    pages: Pages,
     lent: Range<usize>,
-}
-
-mod system {
-    use std::ffi::{c_int, c_void};
-
-    pub const READ_WRITE: c_int = 3;
-    pub const NONE: c_int = 0;
-    pub const PRIVATE_ANONYMOUS: c_int = 0x22;
-
-    extern "C" {
-        pub fn mmap(
-            at: *mut c_void,
-            length: usize,
-            access: c_int,
-            flags: c_int,
-            file: c_int,
-            offset: i64,
-        ) -> *mut c_void;
-        pub fn mprotect(at: *mut c_void, length: usize, access: c_int) -> c_int;
-        pub fn munmap(at: *mut c_void, length: usize) -> c_int;
-    }
 }
 
 impl Lent {
     pub fn nothing() -> Lent {
-        // SAFETY: fresh pages, of which all but the first and the last may be read and written.
-        unsafe {
-            let all = system::mmap(
-                ptr::null_mut(),
-                PAGE + ROOM + PAGE,
-                system::NONE,
-                system::PRIVATE_ANONYMOUS,
-                -1,
-                0,
-            );
-            assert!(all as isize != -1, "no memory for a buffer");
-            let front = all.cast::<u8>().add(PAGE);
-            assert_eq!(system::mprotect(front.cast(), ROOM, system::READ_WRITE), 0, "no memory for a buffer");
-            Lent { front, lent: 0..0 }
-        }
+        let mut pages = Pages::closed(PAGE + ROOM + PAGE);
+        pages.open(PAGE, ROOM);
+        Lent { pages, lent: 0..0 }
     }
 
-    /// A buffer with these bytes, at an edge.
-    pub fn lend(&mut self, bytes: &[u8], edge: Edge) -> &mut [u8] {
+    /// A buffer with these bytes, at a place. It is lent until the next one is, or this value is dropped.
+    pub fn lend(&mut self, bytes: &[u8], place: Place) -> Buffer {
         let length = bytes.len();
         assert!(length <= MOST);
-        self.lent = match edge {
-            Edge::Front => 0..length,
-            Edge::Back => ROOM - length..ROOM,
+        self.lent = match place {
+            Place::Front => 0..length,
+            Place::Back => ROOM - length..ROOM,
+            Place::Amid(offset) => GUARDS + offset..GUARDS + offset + length,
+            Place::Null => {
+                assert_eq!(length, 0, "bytes have to lie somewhere");
+                0..0
+            }
         };
         for guards in self.guards() {
             self.room()[guards].fill(GUARD);
         }
         self.lent_bytes().copy_from_slice(bytes);
-        self.lent_bytes()
+        let start = match place {
+            Place::Null => ptr::null_mut(),
+            // SAFETY: in the room, or at its end.
+            _ => unsafe { self.pages.start.add(PAGE + self.lent.start) },
+        };
+        Buffer { start, length }
     }
 
     /// Whether the buffer now has just these bytes, with every guard byte around it as it was.
@@ -100,16 +85,7 @@ impl Lent {
     }
 
     fn room(&mut self) -> &mut [u8] {
-        // SAFETY: these pages are this value's own until it is dropped.
-        unsafe { slice::from_raw_parts_mut(self.front, ROOM) }
-    }
-}
-
-impl Drop for Lent {
-    fn drop(&mut self) {
-        // SAFETY: the pages of `nothing`, which nobody borrows any more.
-        unsafe {
-            system::munmap(self.front.sub(PAGE).cast(), PAGE + ROOM + PAGE);
-        }
+        // SAFETY: these pages are open, and this value's own until it is dropped.
+        unsafe { slice::from_raw_parts_mut(self.pages.start.add(PAGE), ROOM) }
     }
 }

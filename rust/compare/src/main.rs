@@ -1,145 +1,116 @@
-//! compare quick PROGRAM [SEED]   what `make test` tries, in about a minute; PROGRAM is the rehearsal program
-//! compare long N [SEED]          recipes of a node more, and rounds until N inputs are tried, with a line of progress
-//! compare round SEED NUMBER      one round once more
+//! compare quick REHEARSE CASES [SEED]       what `make test` tries, in less than a minute; the two are the programs of these names
+//! compare long N [SEED]                     recipes of a node more, and rounds until N inputs are tried, with a line of progress
+//! compare round SEED NUMBER                 one round once more
+//! compare rehearsal REHEARSE SEED NUMBER    one rehearsal once more
+//! compare evaluation CASES SEED NUMBER      one evaluation once more
+//! compare touch PLACE HOW                   reads or writes the byte beside a buffer, which stops it (front, back) or not (amid)
 //!
-//! The last line is 'N passed, M failed'.
+//! The last line is 'N passed, M failed'. A word that is not understood is told on standard error, and the exit status is 2.
 
+mod arguments;
+mod misunderstood;
+mod pipes;
 mod report;
+mod threads;
+mod touch;
 
-use compare::chance::Chance;
-use compare::parts::{damage, lengths, limit, rehearsal, rounds, small};
+use arguments::{Task, USAGE};
+use compare::parts::{rounds, small, Part, FIXED};
 use compare::tally::Tally;
 use compare::trial::Trial;
 use compare::worker::{Worker, BASELINE, LIBRARY};
-use compare::wrong::WRONG;
+use compare::wrong;
 use report::Report;
 use std::process::ExitCode;
-use std::sync::atomic::{AtomicU64, Ordering::Relaxed};
-use std::thread;
-use std::time::{Duration, Instant};
 
-/// Where none is named.
-const SEED: u64 = 1;
 /// Compared with the second program.
-const WORKERS: [Worker; 2] = [LIBRARY, BASELINE];
-/// Each takes every so-manieth round; fixed, so that the same rounds are made on every machine.
-const THREADS: u64 = 2;
+pub const WORKERS: [Worker; 2] = [LIBRARY, BASELINE];
 /// Inputs of the quick part's rounds.
 const QUICK: u64 = 3_000_000;
-/// Inputs of the rehearsal program.
-const REHEARSALS: u64 = 400;
-/// Rounds in which a wrong worker has to be found.
-const FINDING: u64 = 2_000;
 
 fn main() -> ExitCode {
-    let arguments: Vec<String> = std::env::args().skip(1).collect();
-    let words: Vec<&str> = arguments.iter().map(String::as_str).collect();
-    let numbers: Vec<u64> = words.iter().filter_map(|word| word.parse().ok()).collect();
-    match (words.as_slice(), numbers.as_slice()) {
-        (["quick", program], []) => quick(program, SEED),
-        (["quick", program, _], &[seed]) => quick(program, seed),
-        (["long", _], &[inputs]) => long(inputs, SEED),
-        (["long", _, _], &[inputs, seed]) => long(inputs, seed),
-        (["round", _, _], &[seed, number]) => one_round(seed, number),
-        _ => {
-            eprintln!("usage: compare quick PROGRAM [SEED] | long N [SEED] | round SEED NUMBER");
+    let words: Vec<String> = std::env::args().skip(1).collect();
+    let words: Vec<&str> = words.iter().map(String::as_str).collect();
+    match arguments::task(&words) {
+        Ok(Task::Quick { rehearse, cases, seed }) => quick(&rehearse, &cases, seed),
+        Ok(Task::Long { inputs, seed }) => tried(Report::default(), small::FIVE, inputs, seed),
+        Ok(Task::Round { seed, number }) => one_round(seed, number),
+        Ok(Task::Rehearsal { program, seed, number }) => one_rehearsal(&program, seed, number),
+        Ok(Task::Evaluation { program, seed, number }) => one_evaluation(&program, seed, number),
+        Ok(Task::Touch { place, touched }) => touch::touch(place, touched),
+        Err(sentence) => {
+            eprintln!("compare: {sentence}\n{USAGE}");
             ExitCode::from(2)
         }
     }
 }
 
-fn quick(program: &str, seed: u64) -> ExitCode {
+fn quick(rehearse: &str, cases: &str, seed: u64) -> ExitCode {
     let mut report = Report::default();
-    for wrong in WRONG {
-        report.check(&format!("a worker that {} is found out", wrong.name), found_out(wrong));
-    }
-    rehearsals(&mut report, program, seed);
-    tried(report, 4, QUICK, seed)
-}
-
-fn long(inputs: u64, seed: u64) -> ExitCode {
-    tried(Report::default(), 5, inputs, seed)
+    wrong_workers(&mut report);
+    touched_pages(&mut report);
+    misunderstood::all(&mut report);
+    pipes::all(&mut report, rehearse, cases, seed);
+    tried(report, small::FOUR, QUICK, seed)
 }
 
 fn one_round(seed: u64, number: u64) -> ExitCode {
     let mut report = Report::default();
-    report.part(&format!("round {number}"), part(|trial| rounds::round(trial, seed, number)));
+    report.part(&format!("round {number}"), 1, tally(|trial| rounds::round(trial, seed, number)));
     report.end()
 }
 
-fn tried(mut report: Report, nodes: usize, inputs: u64, seed: u64) -> ExitCode {
-    report.part(&format!("all recipes of up to {nodes} nodes"), part(|trial| small::all(trial, nodes)));
-    report.part("byte by byte", part(damage::byte_by_byte));
-    report.part("lengths", part(lengths::all));
-    report.part("at the step limit", part(limit::all));
-    report.part(&format!("rounds of seed {seed}"), in_threads(inputs, seed));
+fn one_rehearsal(program: &str, seed: u64, number: u64) -> ExitCode {
+    let mut report = Report::default();
+    pipes::rehearsals(&mut report, program, seed, number..=number);
+    report.end()
+}
+
+fn one_evaluation(program: &str, seed: u64, number: u64) -> ExitCode {
+    let mut report = Report::default();
+    pipes::evaluations(&mut report, program, seed, number..=number);
+    report.end()
+}
+
+fn tried(mut report: Report, small: Part, inputs: u64, seed: u64) -> ExitCode {
+    for part in [small].into_iter().chain(FIXED) {
+        report.part(part.name, part.floor, tally(part.tries));
+    }
+    report.part(&format!("rounds of seed {seed}"), inputs, threads::rounds(inputs, seed));
     report.met_everything();
     report.end()
 }
 
-fn part(inputs: impl FnOnce(&mut Trial)) -> Tally {
+fn tally(tries: impl FnOnce(&mut Trial)) -> Tally {
     let mut trial = Trial::new(&WORKERS);
-    inputs(&mut trial);
+    tries(&mut trial);
     trial.tally
 }
 
-fn found_out(wrong: Worker) -> bool {
-    let mut trial = Trial::new(&[wrong]);
-    limit::all(&mut trial);
-    (0..FINDING).any(|number| {
-        rounds::round(&mut trial, SEED, number);
-        trial.tally.differences > 0
-    })
-}
-
-/// Rounds until so many inputs are tried.
-fn in_threads(inputs: u64, seed: u64) -> Tally {
-    let tried = AtomicU64::new(0);
-    thread::scope(|scope| {
-        let tried = &tried;
-        let threads: Vec<_> = (0..THREADS)
-            .map(|first| scope.spawn(move || every_few(first, inputs / THREADS, seed, tried)))
-            .collect();
-        let started = Instant::now();
-        let mut said = Instant::now();
-        while threads.iter().any(|thread| !thread.is_finished()) {
-            thread::sleep(Duration::from_millis(20));
-            if said.elapsed() > Duration::from_secs(10) {
-                said = Instant::now();
-                eprintln!("{} of {inputs} inputs, {} s", tried.load(Relaxed), started.elapsed().as_secs());
-            }
+/// Each wrong worker has to be found by each part that is meant for it, and some part is.
+fn wrong_workers(report: &mut Report) {
+    for wrong in wrong::all() {
+        let name = wrong.worker.name;
+        if wrong.found_by.is_empty() {
+            report.check(&format!("a worker that {name} has a part that is meant for it"), false);
         }
-        let mut whole = Tally::default();
-        for thread in threads {
-            whole.add(thread.join().expect("a thread ends"));
-        }
-        whole
-    })
-}
-
-fn every_few(first: u64, inputs: u64, seed: u64, tried: &AtomicU64) -> Tally {
-    let mut trial = Trial::new(&WORKERS);
-    let mut number = first;
-    while trial.tally.inputs < inputs {
-        let before = trial.tally.inputs;
-        rounds::round(&mut trial, seed, number);
-        tried.fetch_add(trial.tally.inputs - before, Relaxed);
-        number += THREADS;
-    }
-    trial.tally
-}
-
-fn rehearsals(report: &mut Report, program: &str, seed: u64) {
-    let mut differences = 0;
-    for number in 0..REHEARSALS {
-        let input = rehearsal::input(&mut Chance::of_round(seed, number));
-        if let Some(how) = rehearsal::differs(program, &input) {
-            differences += 1;
-            println!("seed {seed} rehearsal {number}: {how}");
+        for part in wrong.found_by {
+            let mut trial = Trial::new(&[wrong.worker]);
+            (part.tries)(&mut trial);
+            let found = trial.tally.differences > 0;
+            report.check(&format!("a worker that {name} is found out: {}", part.name), found);
         }
     }
-    report.check(
-        &format!("rehearsals by pipe: {REHEARSALS} inputs, {differences} differences"),
-        differences == 0,
-    );
+}
+
+/// A page beside a buffer stops what touches it, and guard bytes do not.
+fn touched_pages(report: &mut Report) {
+    for place in ["front", "back", "amid"] {
+        for touched in ["read", "write"] {
+            let stops = place != "amid";
+            let stopped = touch::stopped(place, touched).is_ok_and(|stopped| stopped == stops);
+            let what = if stops { "is stopped" } else { "goes on" };
+            report.check(&format!("{place}: a {touched} beside a buffer {what}"), stopped);
+        }
+    }
 }

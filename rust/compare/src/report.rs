@@ -1,6 +1,6 @@
 //! What is said of a comparison: a line a part, and the count that the gate reads.
 
-use compare::tally::Tally;
+use compare::tally::{Tally, TOLD};
 use std::process::ExitCode;
 
 #[derive(Default)]
@@ -11,16 +11,28 @@ pub struct Report {
 }
 
 impl Report {
-    /// A part of the comparison.
-    pub fn part(&mut self, name: &str, tally: Tally) {
+    /// A part of the comparison, which tries no fewer inputs than its floor.
+    pub fn part(&mut self, name: &str, floor: u64, tally: Tally) {
         for told in tally.told() {
             println!("{told}");
         }
+        let few = if tally.inputs < floor { format!(", fewer than {floor}") } else { String::new() };
         self.check(
-            &format!("{name}: {} inputs, {} differences", tally.inputs, tally.differences),
-            tally.differences == 0 && tally.inputs > 0,
+            &format!("{name}: {} inputs{few}, {} differences", tally.inputs, tally.differences),
+            tally.differences == 0 && tally.inputs >= floor,
         );
         self.whole.add(tally);
+    }
+
+    /// A program by pipe: so many inputs, and the differences, of which the first are told.
+    pub fn piped(&mut self, name: &str, inputs: u64, differences: &[String]) {
+        for told in differences.iter().take(TOLD) {
+            println!("{told}");
+        }
+        let found = differences.len() as u64;
+        self.check(&format!("{name}: {inputs} inputs, {found} differences"), inputs > 0 && found == 0);
+        self.whole.inputs += inputs;
+        self.whole.differences += found;
     }
 
     pub fn check(&mut self, what: &str, holds: bool) {

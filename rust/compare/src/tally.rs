@@ -1,10 +1,13 @@
 //! What was tried, what it came to, and where a worker differed.
 
+use second::refusal::Reason;
 use second::{Answer, Compiled};
 use std::fmt::{self, Display, Formatter};
 
 /// Differences that are told in full; the others are counted.
-const TOLD: usize = 3;
+pub const TOLD: usize = 3;
+/// The last row of document 01's table of refusals.
+const MOST_REFUSAL: usize = Reason::Steps as usize;
 
 #[derive(Default, Clone)]
 pub struct Tally {
@@ -14,7 +17,10 @@ pub struct Tally {
     /// Accepted tables, and numbers and throws.
     accepted: u64,
     ends: [u64; 2],
-    refusals: [u64; 16],
+    /// By number; the first stays 0.
+    refusals: [u64; MOST_REFUSAL + 1],
+    /// Answers that document 01 has no number for.
+    unknown: u64,
 }
 
 impl Tally {
@@ -22,15 +28,22 @@ impl Tally {
         self.inputs += 1;
         match answer.refusal {
             0 => self.accepted += 1,
-            refusal => self.refusals[refusal as usize] += 1,
+            refusal => self.refused(refusal),
         }
     }
 
     pub fn ran(&mut self, answer: Answer) {
         self.inputs += 1;
-        match answer.refusal {
-            0 => self.ends[answer.kind as usize] += 1,
-            refusal => self.refusals[refusal as usize] += 1,
+        match (answer.refusal, self.ends.get_mut(answer.kind as usize)) {
+            (0, Some(met)) => *met += 1,
+            (refusal, _) => self.refused(refusal),
+        }
+    }
+
+    fn refused(&mut self, refusal: u32) {
+        match self.refusals.get_mut(refusal as usize) {
+            Some(met) if refusal > 0 => *met += 1,
+            _ => self.unknown += 1,
         }
     }
 
@@ -47,13 +60,15 @@ impl Tally {
         self.accepted += other.accepted;
         add(&mut self.ends, other.ends);
         add(&mut self.refusals, other.refusals);
+        self.unknown += other.unknown;
         self.told.extend(other.told);
         self.told.truncate(TOLD);
     }
 
-    /// Whether every end and every refusal was met.
+    /// Whether every end and every refusal was met, and no other answer.
     pub fn complete(&self) -> bool {
-        self.accepted > 0 && self.ends.iter().chain(&self.refusals[1..]).all(|&met| met > 0)
+        let met = self.ends.iter().chain(&self.refusals[1..]);
+        self.accepted > 0 && self.unknown == 0 && met.into_iter().all(|&met| met > 0)
     }
 
     pub fn told(&self) -> &[String] {

@@ -1,17 +1,22 @@
 //! One input after another, to the second program and to each worker: all fields of the answer and every byte of every lent
 //! buffer must be the same, and every byte around them as it was.
 
-use crate::lent::{Edge, Lent, MOST};
+use crate::hex::hex;
+use crate::lent::{Lent, MOST};
+use crate::places::Places;
 use crate::tally::Tally;
 use crate::worker::Worker;
 use second::{Answer, Compiled};
 use std::fmt::Debug;
+use std::panic::{self, AssertUnwindSafe};
 
 pub struct Trial {
     workers: Vec<Worker>,
     pub tally: Tally,
     /// Where the inputs come from, to be told with a difference.
     pub source: String,
+    /// Where the buffers lie; by turns if it is not said.
+    pub places: Option<Places>,
     table: Lent,
     code: Lent,
     schedule: Lent,
@@ -27,6 +32,7 @@ impl Trial {
             workers: workers.to_vec(),
             tally: Tally::default(),
             source: String::new(),
+            places: None,
             table: Lent::nothing(),
             code: Lent::nothing(),
             schedule: Lent::nothing(),
@@ -38,19 +44,21 @@ impl Trial {
 
     /// Compiles a table into a buffer with so much room.
     pub fn compile(&mut self, table: &[u8], room: usize) -> Compiled {
+        let places = self.next_places();
         let wanted = &mut self.wanted[..room];
         wanted.copy_from_slice(&self.fresh[..room]);
         let answer = second::compile(table, wanted);
         self.tally.compiled(answer);
         for worker in &self.workers {
-            let edge = edge(self.tally.inputs);
-            let lent_table = self.table.lend(table, edge);
-            let given = (worker.compile)(lent_table, self.code.lend(&self.fresh[..room], edge));
-            let same = given == answer && self.code.holds(wanted) && self.table.holds(table);
+            let lent_table = self.table.lend(table, places.table);
+            let lent_code = self.code.lend(&self.fresh[..room], places.code);
+            // SAFETY: both are lent apart, and may be written as far as the guards reach.
+            let given = unless_panicked(|| unsafe { (worker.compile)(lent_table, lent_code) });
+            let same = given == Some(answer) && self.code.holds(wanted) && self.table.holds(table);
             if !same {
                 self.tally.differs(|| {
                     format!(
-                        "{}: {} compiles table {} with room for {room} bytes\n{}",
+                        "{}: {} compiles table {} with room for {room} bytes, {places:?}\n{}",
                         self.source,
                         worker.name,
                         hex(table),
@@ -69,24 +77,26 @@ impl Trial {
 
     /// Runs code with so much room for the stack.
     pub fn run(&mut self, status: u8, code: &[u8], schedule: &[u8], room: usize) -> Answer {
+        let places = self.next_places();
         let wanted = &mut self.wanted[..room];
         wanted.copy_from_slice(&self.fresh[..room]);
         let answer = second::run(status, code, schedule, wanted);
         self.tally.ran(answer);
         for worker in &self.workers {
-            let edge = edge(self.tally.inputs);
-            let lent_code = self.code.lend(code, edge);
-            let lent_schedule = self.schedule.lend(schedule, edge);
+            let lent_code = self.code.lend(code, places.code);
+            let lent_schedule = self.schedule.lend(schedule, places.schedule);
+            let lent_stack = self.stack.lend(&self.fresh[..room], places.stack);
+            // SAFETY: the three are lent apart, and may be written as far as the guards reach.
             let given =
-                (worker.run)(status, lent_code, lent_schedule, self.stack.lend(&self.fresh[..room], edge));
-            let same = given == answer
+                unless_panicked(|| unsafe { (worker.run)(status, lent_code, lent_schedule, lent_stack) });
+            let same = given == Some(answer)
                 && self.stack.holds(wanted)
                 && self.code.holds(code)
                 && self.schedule.holds(schedule);
             if !same {
                 self.tally.differs(|| {
                     format!(
-                        "{}: {} runs code {} from status {status} under schedule {} with room for {room} bytes\n{}",
+                        "{}: {} runs code {} from status {status} under schedule {} with room for {room} bytes, {places:?}\n{}",
                         self.source,
                         worker.name,
                         hex(code),
@@ -99,23 +109,29 @@ impl Trial {
         answer
     }
 
+    pub fn workers(&self) -> Vec<Worker> {
+        self.workers.clone()
+    }
+
     /// A claim about answers, beside that they are the same.
     pub fn claim(&mut self, what: &str, holds: bool) {
         if !holds {
             self.tally.differs(|| format!("{}: not so: {what}", self.source));
         }
     }
-}
 
-/// Buffers meet the one page and the other, in an order that no row of inputs has.
-fn edge(input: u64) -> Edge {
-    match input.count_ones() % 2 {
-        0 => Edge::Front,
-        _ => Edge::Back,
+    fn next_places(&self) -> Places {
+        self.places.unwrap_or_else(|| Places::by_turns(self.tally.inputs))
     }
 }
 
-fn difference<A: Debug>(wanted: &A, given: &A, buffer_wanted: &[u8], buffer: &[u8]) -> String {
+/// A worker's answer, unless it panics; its message stands on standard error then.
+fn unless_panicked<A>(call: impl FnOnce() -> A) -> Option<A> {
+    // a worker keeps nothing between calls, and the buffers are filled anew before each
+    panic::catch_unwind(AssertUnwindSafe(call)).ok()
+}
+
+fn difference<A: Debug>(wanted: &A, given: &Option<A>, buffer_wanted: &[u8], buffer: &[u8]) -> String {
     let byte = match (0..buffer.len()).find(|&k| buffer[k] != buffer_wanted[k]) {
         Some(k) => format!("byte {k} of the buffer: {:02x}, wanted {:02x}", buffer[k], buffer_wanted[k]),
         None => {
@@ -123,12 +139,6 @@ fn difference<A: Debug>(wanted: &A, given: &A, buffer_wanted: &[u8], buffer: &[u
                 .to_string()
         }
     };
-    format!("  wanted {wanted:?}\n  given  {given:?}\n  {byte}")
-}
-
-fn hex(bytes: &[u8]) -> String {
-    match bytes {
-        [] => "(empty)".to_string(),
-        _ => bytes.iter().map(|byte| format!("{byte:02x}")).collect(),
-    }
+    let given = given.as_ref().map_or("a panic".to_string(), |given| format!("{given:?}"));
+    format!("  wanted {wanted:?}\n  given  {given}\n  {byte}")
 }

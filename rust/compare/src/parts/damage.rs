@@ -1,12 +1,14 @@
 //! Tables and codes with wrong bytes: one by one, every value at every byte; and at random.
 
 use super::recalled::{self, schedule};
-use super::{CODE, STACK};
+use super::{Part, CODE, STACK};
 use crate::chance::Chance;
 use crate::layout::{self, Nodes};
 use crate::recipes::Shape;
 use crate::trial::Trial;
 use second::expression::Expression::{self, *};
+
+pub const BYTE_BY_BYTE: Part = Part { name: "byte by byte", floor: 108_000, tries: byte_by_byte };
 
 /// Every value at every byte of the table and of the code of a recipe with each kind of node, and some values at every byte
 /// of a table of 512 nodes.
@@ -36,7 +38,7 @@ pub fn byte_by_byte(trial: &mut Trial) {
 const RECALL_AT_UNMARK: u8 = 1 << 7;
 
 /// Unblock (Catch (Block (Add (Val 5) (Val 7))) (Seqn (Val 6) Throw)).
-fn every_kind() -> Expression {
+pub fn every_kind() -> Expression {
     let add = Add(Box::new(Val(5)), Box::new(Val(7)));
     let seqn = Seqn(Box::new(Val(6)), Box::new(Throw));
     Unblock(Box::new(Catch(Box::new(Block(Box::new(add))), Box::new(seqn))))
@@ -81,7 +83,7 @@ pub fn code_round(trial: &mut Trial, chance: &mut Chance) {
 }
 
 /// One wrong byte, a byte that is nearly right, a record moved, doubled or lost, or a wrong length.
-fn damage(bytes: &mut Vec<u8>, chance: &mut Chance) {
+pub fn damage(bytes: &mut Vec<u8>, chance: &mut Chance) {
     let records = bytes.len() / 8;
     if records == 0 {
         return bytes.push(chance.byte());

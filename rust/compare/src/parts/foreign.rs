@@ -1,6 +1,6 @@
 //! Code that no compiler made: well-formed instructions in any order, pushes without end, marks on marks, and plain bytes.
 
-use super::recalled::{room_for_stack, schedule};
+use super::recalled::{room_for_stack, schedule, status};
 use super::STACK;
 use crate::chance::Chance;
 use crate::trial::Trial;
@@ -29,11 +29,11 @@ pub fn round(trial: &mut Trial, chance: &mut Chance) {
         trial.run(chance.byte() & 1, &code, &schedule, STACK);
     }
     let room = room_for_stack(chance);
-    trial.run(chance.byte() % 3, &code, &[], room);
+    trial.run(status(chance), &code, &[], room);
 }
 
 /// Mostly short, so that a run comes to its end.
-fn any_order(chance: &mut Chance) -> Vec<u8> {
+pub fn any_order(chance: &mut Chance) -> Vec<u8> {
     let most = chance.pick(&[4, 4, 8, 8, 16, 64]);
     let length = chance.between(1, most);
     let opcodes =

@@ -1,12 +1,12 @@
 //! Buffers of every awkward length.
 
-use super::{CODE, STACK};
-use crate::chance::Chance;
-use crate::layout::Nodes;
-use crate::lent::MOST;
-use crate::recipes::Shape;
+use super::foreign::{record, POP, PUSH};
+use super::{Part, AMPLE, CODE, STACK};
+use crate::layout::{tower, Nodes};
 use crate::trial::Trial;
 use second::expression::Expression::{Unblock, Val};
+
+pub const LENGTHS: Part = Part { name: "lengths", floor: 24_000, tries: all };
 
 /// More nodes than a table may have.
 const MANY: usize = 520;
@@ -20,14 +20,9 @@ pub fn all(trial: &mut Trial) {
     schedules(trial);
 }
 
-/// A Val and Blocks, each over the one before: the front of it, cut at a record, is a table too.
-fn tower() -> Vec<u8> {
-    let nodes = Nodes::of(&Shape::DeepBlocks.recipe(MANY, &mut Chance::new(0)));
-    nodes.table(&nodes.in_order())
-}
-
 fn tables(trial: &mut Trial) {
-    let tower = tower();
+    let tower = tower(MANY);
+    let tower = tower.as_flattened();
     for bytes in 0..=tower.len() {
         let compiled = trial.compile(&tower[..bytes], CODE);
         let whole = bytes % 8 == 0 && (8..=4096).contains(&bytes);
@@ -36,11 +31,11 @@ fn tables(trial: &mut Trial) {
 }
 
 fn code_buffers(trial: &mut Trial) {
-    let tower = tower();
+    let tower = tower(MANY);
     for nodes in 1..=512 {
         let exact = 8 * (2 * nodes - 1);
-        for room in [0, exact - 8, exact - 7, exact - 1, exact, exact + 1, exact + 8, MOST] {
-            let compiled = trial.compile(&tower[..8 * nodes], room);
+        for room in [0, exact - 8, exact - 7, exact - 1, exact, exact + 1, exact + 8, AMPLE] {
+            let compiled = trial.compile(tower[..nodes].as_flattened(), room);
             trial.claim("8 bytes an instruction are enough", (compiled.refusal == 0) == (room >= exact));
         }
     }
@@ -48,7 +43,7 @@ fn code_buffers(trial: &mut Trial) {
 
 /// PUSH, POP, PUSH, POP ..: an odd number of them ends in a number, an even one in 14.
 fn codes(trial: &mut Trial) {
-    let code: Vec<u8> = [[1, 0, 0, 0, 9, 0, 0, 0], [4, 0, 0, 0, 0, 0, 0, 0]].concat().repeat(600);
+    let code = [record(PUSH, 9), record(POP, 0)].concat().repeat(600);
     for bytes in 0..=CODE + 32 {
         let answer = trial.run(1, &code[..bytes], &[], STACK);
         trial.claim(
@@ -59,20 +54,23 @@ fn codes(trial: &mut Trial) {
 }
 
 fn stacks(trial: &mut Trial) {
-    let code = [1, 0, 0, 0, 9, 0, 0, 0];
-    for room in (0..=STACK + 64).chain(MOST - 64..=MOST) {
-        let answer = trial.run(1, &code, &[], room);
+    for room in (0..=STACK + 64).chain(AMPLE - 64..=AMPLE) {
+        let answer = trial.run(1, &record(PUSH, 9), &[], room);
         trial.claim("a stack of 4,096 bytes is enough", (answer.kind == 0) == (room >= STACK));
     }
 }
 
-/// One recall, at the last bit of a schedule of each length, in Unblocks over a Val: it strikes as long as its instruction is
-/// one of the 1,023.
-fn schedules(trial: &mut Trial) {
+/// The code of Unblocks over a Val: 1,023 instructions, each of which a recall cuts.
+pub fn openings(trial: &mut Trial) -> Vec<u8> {
     let openings = (1..512).fold(Val(9), |opened, _| Unblock(Box::new(opened)));
     let nodes = Nodes::of(&openings);
     let compiled = trial.compile(&nodes.table(&nodes.in_order()), CODE);
-    let code = trial.code(compiled);
+    trial.code(compiled)
+}
+
+/// One recall, at the last bit of a schedule of each length: it strikes as long as its instruction is one of the 1,023.
+fn schedules(trial: &mut Trial) {
+    let code = openings(trial);
     for bytes in 0..=4000 {
         let mut schedule = vec![0; bytes];
         if let Some(last) = schedule.last_mut() {

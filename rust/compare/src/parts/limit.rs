@@ -1,8 +1,10 @@
 //! Runs that come to the step limit: an end, a refusal, a recall or one more step at 1,535 steps, and on both sides of it.
 
 use super::foreign::{self, ADD, MARK, POP, PUSH, THROW};
-use super::STACK;
+use super::{Part, STACK};
 use crate::trial::Trial;
+
+pub const LIMIT: Part = Part { name: "at the step limit", floor: 9_800, tries: all };
 
 /// MARKs in a row, each with the next address as target, then THROW: m of them take 3 * 2^m - 2 steps, 766 here.
 const MARKS: usize = 8;

@@ -1,9 +1,8 @@
 //! Recipes of every shape up to 512 nodes, in several numberings, under schedules of every kind.
 
-use super::{demand, CODE, STACK};
+use super::{demand, AMPLE, CODE, STACK};
 use crate::chance::Chance;
 use crate::layout;
-use crate::lent::MOST;
 use crate::recipes::{Shape, SHAPES};
 use crate::trial::Trial;
 use second::expression::{Expression, Status};
@@ -20,7 +19,7 @@ pub fn round(trial: &mut Trial, chance: &mut Chance) {
     let code = trial.code(compiled);
     trial.claim("a recipe is accepted", compiled.refusal == 0);
     trial.claim("at most 2n - 1 instructions", code.len() <= 8 * (2 * nodes - 1));
-    let room = chance.pick(&[0, code.len() - 8, code.len() - 1, code.len(), code.len() + 1, MOST]);
+    let room = chance.pick(&[0, code.len() - 8, code.len() - 1, code.len(), code.len() + 1, AMPLE]);
     trial.compile(&layout::table(&recipe, chance), room);
     for _ in 0..RUNS {
         let status = chance.pick(&[Status::Blocked, Status::Unblocked]);
@@ -32,7 +31,7 @@ pub fn round(trial: &mut Trial, chance: &mut Chance) {
         }
     }
     let room = room_for_stack(chance);
-    trial.run(chance.byte() % 4, &code, &schedule(code.len() / 8, chance), room);
+    trial.run(status(chance), &code, &schedule(code.len() / 8, chance), room);
 }
 
 /// Small ones more often, since they take less time.
@@ -74,10 +73,18 @@ pub fn schedule(instructions: usize, chance: &mut Chance) -> Vec<u8> {
     schedule
 }
 
+/// One of the two, or one that is refused.
+pub fn status(chance: &mut Chance) -> u8 {
+    match chance.below(3) {
+        0 => chance.byte(),
+        _ => chance.byte() & 1,
+    }
+}
+
 pub fn room_for_stack(chance: &mut Chance) -> usize {
     match chance.below(4) {
-        0 => chance.pick(&[0, 1, 4095, 4097, MOST]),
-        1 => chance.between(0, MOST),
+        0 => chance.pick(&[0, 1, 4095, 4097, AMPLE]),
+        1 => chance.between(0, AMPLE),
         _ => STACK,
     }
 }

@@ -2,33 +2,28 @@
 
 use super::recalled::{nodes, recipe, schedule};
 use crate::chance::Chance;
+use crate::hex::hex;
 use crate::layout;
-use std::io::Write;
-use std::process::{Command, Stdio};
+use crate::piped;
 
 /// The rehearsal of an input, as the program writes it, if it is not what the second program says.
 pub fn differs(program: &str, input: &[u8]) -> Option<String> {
     let wanted = second::rehearse(input);
-    match written(program, input) {
-        Ok(line) if line == wanted => None,
-        Ok(line) => Some(format!("wanted {wanted:?}, written {line:?}")),
-        Err(error) => Some(error.to_string()),
-    }
+    let how = match piped::written(program, input) {
+        Ok(line) if line == wanted => return None,
+        Ok(line) => format!("wanted {wanted:?}, written {line:?}"),
+        Err(error) => error.to_string(),
+    };
+    Some(format!("rehearses {}\n  {how}", hex(input)))
 }
 
-fn written(program: &str, input: &[u8]) -> std::io::Result<String> {
-    let mut child = Command::new(program).stdin(Stdio::piped()).stdout(Stdio::piped()).spawn()?;
-    // the program leaves what is past 8,192 bytes in the pipe
-    let _ = child.stdin.take().expect("a pipe").write_all(input);
-    let output = child.wait_with_output()?;
-    match output.status.success() {
-        true => Ok(String::from_utf8_lossy(&output.stdout).into_owned()),
-        false => Err(std::io::Error::other(format!("{}", output.status))),
-    }
+/// The input of a number, which can be made again.
+pub fn numbered(seed: u64, number: u64) -> Vec<u8> {
+    input(&mut Chance::of_round(seed, number))
 }
 
 /// A recipe as it should be, or with a wrong status, length, byte or end.
-pub fn input(chance: &mut Chance) -> Vec<u8> {
+fn input(chance: &mut Chance) -> Vec<u8> {
     let nodes = nodes(chance);
     let mut table = layout::table(&recipe(nodes, chance), chance);
     let mut announced = table.len();

@@ -1,13 +1,18 @@
 //! Demand 3, run: all recipes of a few nodes in every numbering, from both statuses, under every schedule over their
 //! instructions; against the second program, against the paper's machine, and against the ends that the rules permit.
 
-use super::{demand, CODE, STACK};
+use super::{demand, Part, CODE, STACK};
 use crate::layout::Nodes;
 use crate::recipes;
 use crate::trial::Trial;
 use second::evaluation::permitted;
 use second::expression::{Expression, Status};
 use std::collections::BTreeSet;
+
+pub const FOUR: Part =
+    Part { name: "all recipes of up to 4 nodes", floor: 50_000, tries: |trial| all(trial, 4) };
+pub const FIVE: Part =
+    Part { name: "all recipes of up to 5 nodes", floor: 1_260_000, tries: |trial| all(trial, 5) };
 
 /// Two sums of these wrap, and two don't.
 const LEAVES: [Expression; 3] = [Expression::Val(1), Expression::Val(i32::MAX), Expression::Throw];
