@@ -1,6 +1,6 @@
 # The commands of README.md.
 
-VERSION = 0.1.0
+VERSION := $(shell sed -n 's/.*define SALNEGRIS_VERSION "\(.*\)"$$/\1/p' include/salnegris.h)
 PREFIX ?= /usr/local
 RECIPE ?= samples/R1.recipe
 # of the long comparison: inputs to try, and where its choices begin

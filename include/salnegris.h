@@ -24,6 +24,8 @@
  *     default: return refused(a.refusal, a.place);
  *     }
  *
+ * The sum of two lane counts wraps at 2^31: 2147483647 + 1 is -2147483648.
+ *
  * Compiled code is never refused in a run with one of the two statuses and a stack buffer of
  * SALNEGRIS_STACK_BYTES or more: it ends in a number or a throw. For a table of n nodes that takes at
  * most 3n - 1 steps, under every schedule.
@@ -37,6 +39,13 @@
 #ifdef __cplusplus
 extern "C" {
 #endif
+
+/* ---- the version of this header, and of the library that is installed with it ---- */
+
+#define SALNEGRIS_VERSION "0.1.0"
+#define SALNEGRIS_VERSION_MAJOR 0
+#define SALNEGRIS_VERSION_MINOR 1
+#define SALNEGRIS_VERSION_PATCH 0
 
 /* ---- sizes, in bytes ---- */
 

@@ -1,5 +1,5 @@
-/* A newer library, to link the example worker with: it accepts every table, and refuses a run by the number in the status byte, at
- * 3. With status 0 it ends in a kind that is not known yet.
+/* A newer library, to link the example worker with: it accepts every table, and refuses a run by the number in the status byte,
+ * at 3. With status 0 it ends in a kind that is not known yet.
  */
 #include <salnegris.h>
 
