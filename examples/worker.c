@@ -39,7 +39,8 @@
  * way round (2147483647 + 2147483647 + 3 comes out as 1) is a count like any other, and nothing here can tell.
  *
  * What is put into a folder after it was read is not seen. So write a file under another name, and rename it: one that is still
- * being written can look like a shorter one. One that changes while it is read stops its folder.
+ * being written can look like a shorter one. One that changes while it is read stops its folder. Nothing locks a folder: name it
+ * once, to one worker.
  *
  * Exit status, the greatest that applies:
  *

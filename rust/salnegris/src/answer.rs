@@ -1,6 +1,6 @@
 //! Statuses, ends and the answer of a run.
 
-use crate::{sys, Refusal};
+use crate::{sys, Reason, Refusal};
 
 /// The starting status of a run.
 #[derive(Debug, Clone, Copy, PartialEq, Eq, Hash)]
@@ -16,6 +16,19 @@ impl From<Status> for u8 {
         match status {
             Status::Blocked => 0,
             Status::Unblocked => 1,
+        }
+    }
+}
+
+/// The status of a byte that came with a recipe. One that is neither 0 nor 1 is refused by 7, as a run refuses it.
+impl TryFrom<u8> for Status {
+    type Error = Refusal;
+
+    fn try_from(byte: u8) -> Result<Status, Refusal> {
+        match byte {
+            0 => Ok(Status::Blocked),
+            1 => Ok(Status::Unblocked),
+            _ => Err(Refusal { reason: Reason::Status, place: 0 }),
         }
     }
 }

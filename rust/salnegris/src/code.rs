@@ -32,8 +32,10 @@ impl<'b> Code<'b> {
         self.bytes.len() / RECORD_BYTES
     }
 
-    /// Runs it from a starting status, with bit k of the schedule (byte k / 8, least significant bit first) asking for a
-    /// recall at the instruction reached as number k, counted from 0; past its end none is asked for. It may have any length.
+    /// Runs it from a starting status, which a byte of a recipe becomes by [`Status::try_from`].
+    ///
+    /// Bit k of the schedule (byte k / 8, least significant bit first) asks for a recall at the instruction reached as number
+    /// k, counted from 0; past its end none is asked for. It may have any length.
     ///
     /// It ends in a number or a throw: that is proved, for every schedule, of code that was compiled. The stack is zero
     /// afterwards.

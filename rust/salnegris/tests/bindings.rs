@@ -112,6 +112,17 @@ fn refusals_before_a_run() {
     refuses_run(1, &[NINE, instruction(5, 1)].concat(), STACK_BYTES, at_once(Reason::Target, 1));
 }
 
+/// A status byte, judged alone and in a run.
+#[test]
+fn status_bytes() {
+    assert_eq!(Status::try_from(0), Ok(Status::Blocked));
+    assert_eq!(Status::try_from(1), Ok(Status::Unblocked));
+    for byte in 2..=255 {
+        assert_eq!(Status::try_from(byte), Err(refusal(Reason::Status, 0)));
+        refuses_run(byte, &NINE, STACK_BYTES, at_once(Reason::Status, 0));
+    }
+}
+
 #[test]
 fn refusals_in_a_run() {
     refuses_run(1, &NINE.repeat(513), STACK_BYTES, (refusal(Reason::StackFull, 512), 512, 512));
