@@ -1,6 +1,7 @@
 //! Links the static library that `make lib` leaves in `target/lib`, or the one of the folder `SALNEGRIS_LIB_DIR`, if the header
 //! that was built or installed with it has the version of these bindings: of another one, an answer could have other fields.
 
+use std::ffi::OsString;
 use std::path::{Path, PathBuf};
 use std::{env, fs, process};
 
@@ -16,8 +17,8 @@ fn main() {
     }
 }
 
-fn of_cargo(name: &str) -> String {
-    env::var(name).expect("cargo says where the manifest is, and its version")
+fn of_cargo(name: &str) -> OsString {
+    env::var_os(name).expect("cargo says where the manifest is, and its version")
 }
 
 fn link(folder: &Path) -> Result<(), String> {
@@ -47,9 +48,10 @@ fn same_version(folder: &Path) -> Result<(), String> {
     let text = fs::read_to_string(header).map_err(|error| format!("{name} cannot be read: {error}"))?;
     let ours = of_cargo("CARGO_PKG_VERSION");
     match text.lines().find_map(version) {
-        Some(version) if version == ours => Ok(()),
+        Some(version) if ours == *version => Ok(()),
         Some(version) => Err(format!(
-            "{name} is of version {version}, and these bindings are of {ours}: take both from one release"
+            "{name} is of version {version}, and these bindings are of {}: take both from one release",
+            ours.to_string_lossy()
         )),
         None => Err(format!("{name} has no SALNEGRIS_VERSION: it is older than these bindings")),
     }

@@ -12,7 +12,7 @@ pub struct Code<'b> {
 
 impl<'b> Code<'b> {
     /// The front of the buffer, by the length that compiling answered. A length that the buffer has no room for, which the
-    /// library is proved not to answer, is a refusal without a number.
+    /// library is proved not to answer, is refusal 0, that has no name.
     pub(crate) fn at_the_front_of(buffer: &'b [u8], compiled: sys::Compiled) -> Result<Code<'b>, Refusal> {
         let bytes = compiled.length()?.checked_mul(RECORD_BYTES).and_then(|length| buffer.get(..length));
         bytes
