@@ -1,6 +1,6 @@
 # The commands of README.md.
 
-VERSION = 0.1.0
+VERSION := $(shell sed -n 's/.*define SALNEGRIS_VERSION "\(.*\)"$$/\1/p' include/salnegris.h)
 PREFIX ?= /usr/local
 RECIPE ?= samples/R1.recipe
 # of the long comparison: inputs to try, and where its choices begin
@@ -44,7 +44,8 @@ install: lib
 	install -d "$(DESTDIR)$(PREFIX)/include" "$(DESTDIR)$(PREFIX)/lib/pkgconfig"
 	install -m 644 $(LIB)/salnegris.h "$(DESTDIR)$(PREFIX)/include"
 	install -m 644 $(LIB)/libsalnegris.a "$(DESTDIR)$(PREFIX)/lib"
-	sed -e 's|@PREFIX@|$(PREFIX)|' -e 's|@VERSION@|$(VERSION)|' include/salnegris.pc.in >"$(DESTDIR)$(PREFIX)/lib/pkgconfig/salnegris.pc"
+	sed -e 's|@PREFIX@|$(PREFIX)|' -e 's|@VERSION@|$(VERSION)|' include/salnegris.pc.in \
+		>"$(DESTDIR)$(PREFIX)/lib/pkgconfig/salnegris.pc"
 
 # the example worker, at target/worker
 .PHONY: worker

@@ -24,6 +24,8 @@
  *     default: return refused(a.refusal, a.place);
  *     }
  *
+ * The sum of two lane counts wraps at 2^31: 2147483647 + 1 is -2147483648.
+ *
  * Compiled code is never refused in a run with one of the two statuses and a stack buffer of
  * SALNEGRIS_STACK_BYTES or more: it ends in a number or a throw. For a table of n nodes that takes at
  * most 3n - 1 steps, under every schedule.
@@ -37,6 +39,13 @@
 #ifdef __cplusplus
 extern "C" {
 #endif
+
+/* ---- the version of this header, and of the library that is installed with it ---- */
+
+#define SALNEGRIS_VERSION "0.1.0"
+#define SALNEGRIS_VERSION_MAJOR 0
+#define SALNEGRIS_VERSION_MINOR 1
+#define SALNEGRIS_VERSION_PATCH 0
 
 /* ---- sizes, in bytes ---- */
 
@@ -81,7 +90,8 @@ enum {
     SALNEGRIS_CODE_SIZE = 9,    /* the code has no bytes, more than 8,184, or not a multiple of 8; 0 */
     SALNEGRIS_OPCODE = 10,      /* an opcode that is not 1 to 8; the address */
     SALNEGRIS_FIELD = 11,       /* bytes 1 to 3 or an absent operand are not zero, or a SET is not of 0 or 1; the address */
-    SALNEGRIS_TARGET = 12,      /* a MARK's or UNMARK's target is not above its own address, or is above the length; the address */
+    SALNEGRIS_TARGET = 12,      /* a MARK's or UNMARK's target is not above its own address, or is above the length;
+                                   the address */
     /* of salnegris_run, while it runs; compiled code never meets these, nor 9 to 12 */
     SALNEGRIS_STACK_FULL = 13, /* a push onto 512 items; the address */
     SALNEGRIS_NO_RULE = 14,    /* no rule for the instruction, or at the length without exactly one number; the address */

@@ -1,5 +1,5 @@
-/* The C interface as a worker's programmer meets it: the header's names and sizes, each refusal by its name, (NULL, 0) for an empty
- * schedule, and what is in the buffers afterwards. What must come is document 01's. The last line is 'N passed, M failed'.
+/* The C interface as a worker's programmer meets it: the header's names and sizes, each refusal by its name, (NULL, 0) for an
+ * empty schedule, and what is in the buffers afterwards. What must come is document 01's. The last line is 'N passed, M failed'.
  */
 #include <salnegris.h>
 
@@ -64,14 +64,17 @@ static void compiling(void) {
 
 /* ---- running ---- */
 
-static int is(salnegris_answer a, uint32_t kind, int32_t number, uint32_t refusal, uint32_t place, uint32_t steps, uint32_t reached) {
-    return a.kind == kind && a.number == number && a.refusal == refusal && a.place == place && a.steps == steps && a.reached == reached;
+static int same(salnegris_answer a, salnegris_answer b) {
+    return a.kind == b.kind && a.number == b.number && a.refusal == b.refusal && a.place == b.place && a.steps == b.steps &&
+           a.reached == b.reached;
 }
 
-static void refuses_run(const char *what, uint8_t status, const uint8_t *bytes, size_t n, size_t room, uint32_t refusal, uint32_t place) {
+static void refuses_run(const char *what, uint8_t status, const uint8_t *bytes, size_t n, size_t room, uint32_t refusal,
+                        uint32_t place) {
     memset(stack, FRESH, sizeof stack);
     salnegris_answer a = salnegris_run(status, bytes, n, NULL, 0, stack, room);
-    expect(what, is(a, SALNEGRIS_REFUSED, 0, refusal, place, 0, 0) && all(stack, sizeof stack, FRESH));
+    salnegris_answer wanted = {.kind = SALNEGRIS_REFUSED, .refusal = refusal, .place = place};
+    expect(what, same(a, wanted) && all(stack, sizeof stack, FRESH));
 }
 
 static void before_a_run(void) {
@@ -90,8 +93,15 @@ static void ends(const char *what, uint8_t status, const uint8_t *bytes, size_t 
                  salnegris_answer wanted) {
     memset(stack, FRESH, sizeof stack);
     salnegris_answer a = salnegris_run(status, bytes, n, schedule, schedule_n, stack, sizeof stack);
-    expect(what, is(a, wanted.kind, wanted.number, wanted.refusal, wanted.place, wanted.steps, wanted.reached) &&
-                     all(stack, SALNEGRIS_STACK_BYTES, 0) && all(stack + SALNEGRIS_STACK_BYTES, MORE, FRESH));
+    expect(what, same(a, wanted) && all(stack, SALNEGRIS_STACK_BYTES, 0) && all(stack + SALNEGRIS_STACK_BYTES, MORE, FRESH));
+}
+
+static salnegris_answer number(int32_t lanes) {
+    return (salnegris_answer){.kind = SALNEGRIS_NUMBER, .number = lanes, .steps = 1, .reached = 1};
+}
+
+static salnegris_answer refused(uint32_t refusal, uint32_t place, uint32_t steps, uint32_t reached) {
+    return (salnegris_answer){SALNEGRIS_REFUSED, 0, refusal, place, steps, reached};
 }
 
 static void in_a_run(void) {
@@ -106,16 +116,28 @@ static void in_a_run(void) {
         marks[8 * i + 4] = (uint8_t)(i + 1);
     }
     marks[8 * 10] = 2;
-    ends("Val 9, the schedule (NULL, 0)", SALNEGRIS_UNBLOCKED, nine, 8, NULL, 0, (salnegris_answer){SALNEGRIS_NUMBER, 9, 0, 0, 1, 1});
-    ends("Val -1", SALNEGRIS_UNBLOCKED, minus_one, 8, NULL, 0, (salnegris_answer){SALNEGRIS_NUMBER, -1, 0, 0, 1, 1});
+    ends("Val 9, the schedule (NULL, 0)", 1, nine, 8, NULL, 0, number(9));
+    ends("Val -1", 1, minus_one, 8, NULL, 0, number(-1));
     ends("a recall, unblocked", SALNEGRIS_UNBLOCKED, nine, 8, recall, 1, (salnegris_answer){SALNEGRIS_THROW, 0, 0, 0, 1, 1});
-    ends("a recall, blocked", SALNEGRIS_BLOCKED, nine, 8, recall, 1, (salnegris_answer){SALNEGRIS_NUMBER, 9, 0, 0, 1, 1});
-    ends("513 PUSH", SALNEGRIS_BLOCKED, pushes, 513 * 8, NULL, 0, (salnegris_answer){SALNEGRIS_REFUSED, 0, SALNEGRIS_STACK_FULL, 512, 512, 512});
-    ends("a lone POP", SALNEGRIS_BLOCKED, pop, 8, NULL, 0, (salnegris_answer){SALNEGRIS_REFUSED, 0, SALNEGRIS_NO_RULE, 0, 0, 0});
-    ends("ten MARKs", SALNEGRIS_BLOCKED, marks, 11 * 8, NULL, 0, (salnegris_answer){SALNEGRIS_REFUSED, 0, SALNEGRIS_STEPS, 0, 1535, 1024});
+    ends("a recall, blocked", SALNEGRIS_BLOCKED, nine, 8, recall, 1, number(9));
+    ends("513 PUSH", 0, pushes, 513 * 8, NULL, 0, refused(SALNEGRIS_STACK_FULL, 512, 512, 512));
+    ends("a lone POP", 0, pop, 8, NULL, 0, refused(SALNEGRIS_NO_RULE, 0, 0, 0));
+    ends("ten MARKs", 0, marks, 11 * 8, NULL, 0, refused(SALNEGRIS_STEPS, 0, 1535, 1024));
+}
+
+/* ---- the version ---- */
+
+#define WORDS_OF(number) #number
+#define WORDS(number) WORDS_OF(number)
+
+static void version(void) {
+    static const char parts[] =
+        WORDS(SALNEGRIS_VERSION_MAJOR) "." WORDS(SALNEGRIS_VERSION_MINOR) "." WORDS(SALNEGRIS_VERSION_PATCH);
+    expect("the version is its three parts", strcmp(SALNEGRIS_VERSION, parts) == 0);
 }
 
 int main(void) {
+    version();
     compiling();
     before_a_run();
     in_a_run();

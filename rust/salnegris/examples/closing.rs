@@ -3,7 +3,7 @@
 //!
 //!     make lib && cd rust && cargo run --example closing
 
-use salnegris::{compile, run, Answer, End, Refusal, Status, CODE_BYTES, RECORD_BYTES, STACK_BYTES};
+use salnegris::{compile, End, Refusal, Status, CODE_BYTES, STACK_BYTES};
 
 /// Seqn (Val 0) (Block (Add (Val 8) (Val 4))), operands first.
 const TABLE: [u8; 48] = [
@@ -20,21 +20,23 @@ fn main() -> Result<(), Refusal> {
     let mut stack = [0; STACK_BYTES];
     let code = compile(&TABLE, &mut buffer)?;
 
-    let quiet = run(Status::Unblocked, code, &[], &mut stack);
-    println!("no recall: {}", what_happens(quiet)?);
-    for k in 0..code.len() / RECORD_BYTES {
+    let quiet = code.run(Status::Unblocked, &[], &mut stack);
+    println!("no recall: {}", what_happens(quiet.end));
+    for k in 0..code.instructions() {
         let mut schedule = [0; 128];
         schedule[k / 8] = 1 << (k % 8);
-        let recalled = run(Status::Unblocked, code, &schedule, &mut stack);
-        println!("recall at {k}: {}", what_happens(recalled)?);
+        let recalled = code.run(Status::Unblocked, &schedule, &mut stack);
+        println!("recall at {k}: {}", what_happens(recalled.end));
     }
     Ok(())
 }
 
 /// What a worker does with the folder.
-fn what_happens(answer: Answer) -> Result<String, Refusal> {
-    Ok(match answer.end? {
-        End::Number(lanes) => format!("{lanes} lanes to base calling"),
+fn what_happens(end: End) -> String {
+    match end {
+        End::Number(lanes @ 0..) => format!("{lanes} lanes to base calling"),
+        End::Number(lanes) => format!("held, {lanes} is no count of lanes"),
         End::Throw => "back to the queue".to_string(),
-    })
+        End::Unknown(answer) => format!("held, {answer:?} is not known"),
+    }
 }

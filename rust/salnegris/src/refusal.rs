@@ -7,42 +7,45 @@ use core::fmt::{self, Display, Formatter};
 
 /// What is wrong with an input; each reason has its number.
 #[derive(Debug, Clone, Copy, PartialEq, Eq, Hash, PartialOrd, Ord)]
-#[repr(u32)]
+#[non_exhaustive]
 pub enum Reason {
     /// The table has no bytes, more than 4,096, or not a multiple of 8.
-    TableSize = 1,
+    TableSize,
     /// A kind that is not 1 to 7.
-    Kind = 2,
+    Kind,
     /// Byte 1, or a byte that the kind doesn't use, is not zero.
-    UnusedByte = 3,
+    UnusedByte,
     /// An operand is not below its node.
-    Operand = 4,
+    Operand,
     /// A node but the last is used never, or more than once.
-    Uses = 5,
+    Uses,
     /// The code buffer is below 8 bytes an instruction.
-    CodeBuffer = 6,
+    CodeBuffer,
     /// The status is not 0 or 1.
-    Status = 7,
+    Status,
     /// The stack buffer is below 4,096 bytes.
-    StackBuffer = 8,
+    StackBuffer,
     /// The code has no bytes, more than 8,184, or not a multiple of 8.
-    CodeSize = 9,
+    CodeSize,
     /// An opcode that is not 1 to 8.
-    Opcode = 10,
+    Opcode,
     /// Bytes 1 to 3 or an absent operand are not zero, or a SET is not of 0 or 1.
-    Field = 11,
+    Field,
     /// A MARK's or UNMARK's target is not above its own address, or is above the length.
-    Target = 12,
+    Target,
     /// A push onto 512 items.
-    StackFull = 13,
+    StackFull,
     /// No rule for the instruction, or at the length without exactly one number.
-    NoRule = 14,
+    NoRule,
     /// 1,535 steps taken and not ended.
-    Steps = 15,
+    Steps,
+    /// A number that these bindings have no name for, and a newer library may.
+    Unknown(u32),
 }
 
 /// What the place of a refusal counts.
 #[derive(Debug, Clone, Copy, PartialEq, Eq, Hash)]
+#[non_exhaustive]
 pub enum Place {
     /// Nothing: the place is 0.
     Whole,
@@ -50,11 +53,13 @@ pub enum Place {
     Node,
     /// Instructions of the code, from 0.
     Address,
+    /// What it counts is not known: that of [`Reason::Unknown`].
+    Unknown,
 }
 
 impl Reason {
-    /// All of them, in the order of their numbers.
-    pub const ALL: [Reason; 15] = [
+    /// All that have a name, in the order of their numbers.
+    pub const ALL: &'static [Reason] = &[
         Reason::TableSize,
         Reason::Kind,
         Reason::UnusedByte,
@@ -73,32 +78,35 @@ impl Reason {
     ];
 
     #[rustfmt::skip]
-    fn place_and_words(self) -> (Place, &'static str) {
+    fn row(self) -> (u32, Place, &'static str) {
         match self {
-            Reason::TableSize => (Place::Whole, "the table has no bytes, more than 4,096, or not a multiple of 8"),
-            Reason::Kind => (Place::Node, "a kind that is not 1 to 7"),
-            Reason::UnusedByte => (Place::Node, "byte 1, or a byte that the kind doesn't use, is not zero"),
-            Reason::Operand => (Place::Node, "an operand is not below its node"),
-            Reason::Uses => (Place::Node, "a node but the last is used never, or more than once"),
-            Reason::CodeBuffer => (Place::Whole, "the code buffer is below 8 bytes an instruction"),
-            Reason::Status => (Place::Whole, "the status is not 0 or 1"),
-            Reason::StackBuffer => (Place::Whole, "the stack buffer is below 4,096 bytes"),
-            Reason::CodeSize => (Place::Whole, "the code has no bytes, more than 8,184, or not a multiple of 8"),
-            Reason::Opcode => (Place::Address, "an opcode that is not 1 to 8"),
-            Reason::Field => (Place::Address, "bytes 1 to 3 or an absent operand are not zero, or a SET is not of 0 or 1"),
-            Reason::Target => (Place::Address, "a MARK's or UNMARK's target is not above its own address, or is above the length"),
-            Reason::StackFull => (Place::Address, "a push onto 512 items"),
-            Reason::NoRule => (Place::Address, "no rule for the instruction, or at the length without exactly one number"),
-            Reason::Steps => (Place::Whole, "1,535 steps taken and not ended"),
+            Reason::TableSize => (1, Place::Whole, "the table has no bytes, more than 4,096, or not a multiple of 8"),
+            Reason::Kind => (2, Place::Node, "a kind that is not 1 to 7"),
+            Reason::UnusedByte => (3, Place::Node, "byte 1, or a byte that the kind doesn't use, is not zero"),
+            Reason::Operand => (4, Place::Node, "an operand is not below its node"),
+            Reason::Uses => (5, Place::Node, "a node but the last is used never, or more than once"),
+            Reason::CodeBuffer => (6, Place::Whole, "the code buffer is below 8 bytes an instruction"),
+            Reason::Status => (7, Place::Whole, "the status is not 0 or 1"),
+            Reason::StackBuffer => (8, Place::Whole, "the stack buffer is below 4,096 bytes"),
+            Reason::CodeSize => (9, Place::Whole, "the code has no bytes, more than 8,184, or not a multiple of 8"),
+            Reason::Opcode => (10, Place::Address, "an opcode that is not 1 to 8"),
+            Reason::Field => (11, Place::Address, "bytes 1 to 3 or an absent operand are not zero, or a SET is not of 0 or 1"),
+            Reason::Target =>
+                (12, Place::Address, "a MARK's or UNMARK's target is not above its own address, or is above the length"),
+            Reason::StackFull => (13, Place::Address, "a push onto 512 items"),
+            Reason::NoRule => (14, Place::Address, "no rule for the instruction, or at the length without exactly one number"),
+            Reason::Steps => (15, Place::Whole, "1,535 steps taken and not ended"),
+            Reason::Unknown(number) => (number, Place::Unknown, "a refusal that is not known here"),
         }
     }
 }
 
 impl Place {
     /// The word for what it counts, as in `at node 0`.
+    #[must_use]
     pub fn word(self) -> Option<&'static str> {
         match self {
-            Place::Whole => None,
+            Place::Whole | Place::Unknown => None,
             Place::Node => Some("node"),
             Place::Address => Some("address"),
         }
@@ -109,23 +117,28 @@ impl Place {
 
 impl Reason {
     /// Its number, as the C interface gives it.
+    #[must_use]
     pub fn number(self) -> u32 {
-        self as u32
+        self.row().0
     }
 
-    /// The reason of a number, if there is one.
-    pub fn numbered(number: u32) -> Option<Reason> {
-        Reason::ALL.into_iter().find(|reason| reason.number() == number)
+    /// The reason of a number: by its name, or else [`Reason::Unknown`].
+    #[must_use]
+    pub fn numbered(number: u32) -> Reason {
+        let named = Reason::ALL.iter().find(|reason| reason.number() == number);
+        named.copied().unwrap_or(Reason::Unknown(number))
     }
 
     /// What its place counts.
+    #[must_use]
     pub fn place(self) -> Place {
-        self.place_and_words().0
+        self.row().1
     }
 
     /// What is wrong, in words.
+    #[must_use]
     pub fn words(self) -> &'static str {
-        self.place_and_words().1
+        self.row().2
     }
 }
 
@@ -142,8 +155,10 @@ pub struct Refusal {
 impl Display for Refusal {
     fn fmt(&self, line: &mut Formatter<'_>) -> fmt::Result {
         write!(line, "refused {}", self.reason.number())?;
-        if let Some(word) = self.reason.place().word() {
-            write!(line, " at {word} {}", self.place)?;
+        match (self.reason.place(), self.reason.place().word()) {
+            (_, Some(word)) => write!(line, " at {word} {}", self.place)?,
+            (Place::Unknown, None) => write!(line, " at {}", self.place)?,
+            (_, None) => (),
         }
         write!(line, ": {}", self.reason.words())
     }

@@ -1,10 +1,11 @@
 //! The C interface as it is (`include/salnegris.h`): all fields of an answer as numbers, 0 where they don't apply.
 
-use crate::{Answer, End, Reason, Refusal};
+use crate::{Answer, End, Ran, Reason, Refusal};
 
 /// What compiling answers.
 #[repr(C)]
-#[derive(Debug, Clone, Copy, PartialEq, Eq)]
+#[derive(Debug, Clone, Copy, PartialEq, Eq, Hash)]
+#[must_use]
 pub struct Compiled {
     /// Of the code, in instructions.
     pub length: u32,
@@ -16,7 +17,8 @@ pub struct Compiled {
 
 /// What running answers.
 #[repr(C)]
-#[derive(Debug, Clone, Copy, PartialEq, Eq)]
+#[derive(Debug, Clone, Copy, PartialEq, Eq, Hash)]
+#[must_use]
 pub struct Run {
     /// 0 a number, 1 a throw, 2 refused.
     pub kind: u32,
@@ -72,24 +74,30 @@ impl Compiled {
 }
 
 impl Run {
-    /// The answer that the fields give.
+    /// The answer that the fields give, of any code.
     pub fn read(self) -> Answer {
-        Answer {
-            end: match self.kind {
-                0 => Ok(End::Number(self.number)),
-                1 => Ok(End::Throw),
-                _ => Err(refusal(self.refusal, self.place)),
-            },
-            steps: self.steps,
-            reached: self.reached,
+        let end = if self.kind == REFUSED { Err(refusal(self.refusal, self.place)) } else { Ok(self.end()) };
+        Answer { end, steps: self.steps, reached: self.reached }
+    }
+
+    /// The answer that the fields give, of compiled code. It is proved to be no refusal: one is an end that is not known.
+    pub fn ran(self) -> Ran {
+        Ran { end: self.end(), steps: self.steps, reached: self.reached }
+    }
+
+    fn end(self) -> End {
+        match self.kind {
+            NUMBER => End::Number(self.number),
+            THROW => End::Throw,
+            _ => End::Unknown(self),
         }
     }
 }
 
-/// The library is proved to give the numbers of `Reason` alone: a panic here means bindings older than the library.
+const NUMBER: u32 = 0;
+const THROW: u32 = 1;
+const REFUSED: u32 = 2;
+
 fn refusal(number: u32, place: u32) -> Refusal {
-    match Reason::numbered(number) {
-        Some(reason) => Refusal { reason, place },
-        None => panic!("refusal {number} at {place} is not known to these bindings"),
-    }
+    Refusal { reason: Reason::numbered(number), place }
 }
