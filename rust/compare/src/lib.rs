@@ -1,4 +1,8 @@
 //! The proved library and the baseline beside the second program, on the same inputs.
+//!
+//! Inputs are made by `chance`, as `recipes` laid out as tables (`layout`); the `parts` try them, each a class of inputs. Buffers
+//! are `lent` at some `places`, or `vast` ones. A `trial` calls each `worker` beside the second program and keeps a `tally`;
+//! programs are `piped`. Workers that are `wrong` on purpose have to be found out. The benchmark runs recipes that are `caught`.
 
 pub mod caught;
 pub mod chance;

@@ -63,7 +63,7 @@ impl Set {
     pub fn compile(&self, side: &Side) {
         let mut code = [0; CODE];
         for table in &self.tables {
-            black_box(side.compile(black_box(table), black_box(&mut code)));
+            let _ = black_box(side.compile(black_box(table), black_box(&mut code)));
         }
     }
 
@@ -97,7 +97,7 @@ impl Runs {
     pub fn run(&self, side: &Side) {
         let mut stack = [0; STACK];
         for (code, schedule) in &self.runs {
-            black_box(side.run(black_box(code), black_box(schedule), black_box(&mut stack)));
+            let _ = black_box(side.run(black_box(code), black_box(schedule), black_box(&mut stack)));
         }
     }
 
