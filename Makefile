@@ -20,7 +20,7 @@ rehearse: target/bin/rehearse
 
 # the proved function and its one line of C; what the prover says goes to target/build.log, and to the screen if it refuses
 target/bin/rehearse: crates/rehearse/c/main.c $(PROVED)
-	@echo "proving and building rehearse; the first time takes a minute or two" >&2
+	@[ -x $@ ] || echo "proving and building rehearse; the first time takes a minute or two" >&2
 	@mkdir -p target/bin
 	@rt staticlib rehearse >target/build.log 2>&1 || { cat target/build.log >&2; exit 1; }
 	@gcc -std=c99 -O2 -Wall -Wextra $< target/staticlib/librehearse.a -o $@
