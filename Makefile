@@ -8,14 +8,27 @@ N ?= 10000000
 SEED ?= 1
 # what a build takes: the header, the archive, the pkg-config file
 LIB = target/lib
+# what a proof is made of
+PROVED = crates.txt $(shell find crates -name '*.rt' -o -name '*.antt')
 
 .DEFAULT_GOAL = check
 
 # build the rehearsal program and rehearse a recipe
 .PHONY: rehearse
-rehearse:
-	@scripts/build rehearse
+rehearse: target/bin/rehearse
 	@target/bin/rehearse <"$(RECIPE)"
+
+# the proved function and its one line of C; what the prover says goes to target/build.log, and to the screen if it refuses
+target/bin/rehearse: crates/rehearse/c/main.c $(PROVED)
+	@[ -x $@ ] || echo "proving and building rehearse; the first time takes a minute or two" >&2
+	@mkdir -p target/bin
+	@rt staticlib rehearse >target/build.log 2>&1 || { cat target/build.log >&2; exit 1; }
+	@gcc -std=c99 -O2 -Wall -Wextra $< target/staticlib/librehearse.a -o $@
+
+# the program that puts document 01's cases through the library
+target/bin/cases: $(PROVED)
+	@mkdir -p target/bin
+	@rt check cases >target/build.log 2>&1 || { cat target/build.log >&2; exit 1; }
 
 # the whole gate, from nothing
 .PHONY: test
@@ -32,7 +45,7 @@ check:
 lib: $(LIB)/salnegris.h $(LIB)/libsalnegris.a
 	@echo "$(LIB) has salnegris.h and libsalnegris.a"
 
-$(LIB)/libsalnegris.a: crates.txt $(shell find crates -name '*.rt' -o -name '*.antt')
+$(LIB)/libsalnegris.a: $(PROVED)
 	@rt staticlib salnegris
 	@install -D -m 644 target/staticlib/libsalnegris.a $@
 

@@ -1,2 +1,4 @@
+pub mod Exit
 pub mod Fields
+pub mod Reading
 pub mod Written
