@@ -1,5 +1,5 @@
-/* The rehearsal program's `main`. The exit status is the value of a proved function (src/lib.rt), since a program of the kit has
-   none; this line, which hands it on, is all that is not proved. */
+/* The rehearsal program's `main`. The exit status is the value of a function of the kit (src/lib.rt), since a program of the kit
+   has none; here it is handed on. */
 #include <stdbool.h>
 #include <stdint.h>
 

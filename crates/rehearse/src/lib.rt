@@ -37,14 +37,14 @@ fn rehearse() -> bool {
     };
     let mut line = [0u8; 64];
     let length = rehearsal::of_input(&input[..read], &mut line);
-    if !io::write_all(libc::STDOUT_FILENO, &line[..length]) {
+    let written = io::write_all(libc::STDOUT_FILENO, &line[..length]);
+    if !written {
         io::write_all(
             libc::STDERR_FILENO,
             b"rehearse: standard output cannot be written\n",
         );
-        return false;
     }
-    true
+    written
 }
 
 fn status(written: bool) -> u8
