@@ -39,8 +39,8 @@
  * way round (2147483647 + 2147483647 + 3 comes out as 1) is a count like any other, and nothing here can tell.
  *
  * What is put into a folder after it was read is not seen. So write a file under another name, and rename it: one that is still
- * being written can look like a shorter one. One that changes while it is read stops its folder. Nothing locks a folder: name it
- * once, to one worker.
+ * being written can look like a shorter one. One that is seen to change while it is read, by its size or its times, stops its
+ * folder. Nothing locks a folder: name it once, to one worker.
  *
  * Exit status, the greatest that applies:
  *
@@ -100,9 +100,12 @@ typedef struct {
     size_t recalls_len;
 } run_folder;
 
+static int later(struct timespec before, struct timespec after) {
+    return before.tv_sec != after.tv_sec || before.tv_nsec != after.tv_nsec;
+}
+
 static int changed(const struct stat *before, const struct stat *after) {
-    return before->st_size != after->st_size || before->st_mtim.tv_sec != after->st_mtim.tv_sec ||
-           before->st_mtim.tv_nsec != after->st_mtim.tv_nsec;
+    return before->st_size != after->st_size || later(before->st_mtim, after->st_mtim) || later(before->st_ctim, after->st_ctim);
 }
 
 /* The front of a file, as much as there is room for. Returns NULL, or what failed. */
@@ -325,8 +328,11 @@ int main(int argc, char **argv) {
         fputs("usage: worker FOLDER..\n", stderr);
         return FAILED;
     }
-    /* A reader that went away is then told like a full disk. A program that you start inherits it. */
+    /* A reader that went away, or a file that may not grow, is then told like a full disk. A program that you start inherits it. */
     signal(SIGPIPE, SIG_IGN);
+#ifdef SIGXFSZ
+    signal(SIGXFSZ, SIG_IGN);
+#endif
     for (int i = 1; i < argc; i++) {
         int status = work(argv[i]);
         if (status == UNSAID) {

@@ -1,9 +1,11 @@
-/* A read() for the example worker, linked with --wrap=read, that does what a bad night does. READS says what:
+/* A read() and an fstatat() for the example worker, linked with --wrap=read,--wrap=fstatat, that do what a bad night does. READS
+ * says what:
  *
  *     slowly     each byte alone, and before it an interruption
  *     fails      one byte of the file READS_OF, and then an error
  *     grows      the file READS_OF gets a byte more as soon as it is read
  *     rewrites   the first byte of the file READS_OF is written anew as soon as it is read
+ *     hidden     the folder READS_OF does not say whether it has the file that is asked for
  *     moves      the folder READS_OF gets another name, with '-moved' at its end, as soon as a file is read
  */
 #define _POSIX_C_SOURCE 200809L
@@ -18,6 +20,8 @@
 
 ssize_t __real_read(int file, void *bytes, size_t room);
 ssize_t __wrap_read(int file, void *bytes, size_t room);
+int __real_fstatat(int folder, const char *name, struct stat *entry, int flags);
+int __wrap_fstatat(int folder, const char *name, struct stat *entry, int flags);
 
 static int is_file(int file, const char *path) {
     struct stat a, b;
@@ -65,4 +69,12 @@ ssize_t __wrap_read(int file, void *bytes, size_t room) {
     if (strcmp(reads, "rewrites") == 0 && first())
         put_byte(of, 0);
     return got;
+}
+
+int __wrap_fstatat(int folder, const char *name, struct stat *entry, int flags) {
+    if (strcmp(getenv("READS"), "hidden") == 0 && is_file(folder, getenv("READS_OF"))) {
+        errno = EIO;
+        return -1;
+    }
+    return __real_fstatat(folder, name, entry, flags);
 }

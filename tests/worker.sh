@@ -13,10 +13,11 @@ make --no-print-directory install PREFIX="$work" >"$work/log" 2>&1 || {
 }
 
 # built NAME WORD..: a worker of this name, by gcc with the header as installed and these words; without it nothing can be tried
+source=examples/worker.c
 built() {
     name=$1
     shift
-    gcc -std=c99 -pedantic -Wall -Wextra -Werror -I"$work/include" examples/worker.c "$@" -o "$work/$name" >"$work/log" 2>&1 || {
+    gcc -std=c99 -pedantic -Wall -Wextra -Werror -I"$work/include" "$source" "$@" -o "$work/$name" >"$work/log" 2>&1 || {
         cat "$work/log"
         echo '0 passed, 1 failed'
         exit 1
@@ -38,6 +39,9 @@ folder() {
 # expect STATUS LINES ERRORS FOLDER..: the worker, given these folders, exits so and writes just these lines to its two outputs
 program=$work/worker
 output=$work/output
+# the files that it may have open; every shell of ours has this limit
+# shellcheck disable=SC3045
+files=$(ulimit -n)
 expect() {
     wanted=$1
     printf '%s' "${2:+$2
@@ -46,7 +50,8 @@ expect() {
 }" >"$work/errors"
     shift 3
     : >"$work/output"
-    (cd "$work/night" && exec timeout 20 "$program" "$@") >"$output" 2>"$work/error"
+    # shellcheck disable=SC3045
+    (cd "$work/night" && ulimit -n "$files" && exec timeout 20 "$program" "$@") >"$output" 2>"$work/error"
     status=$?
     if [ $status -eq "$wanted" ] && cmp -s "$work/lines" "$work/output" && cmp -s "$work/errors" "$work/error"; then
         passed=$((passed + 1))

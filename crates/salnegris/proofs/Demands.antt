@@ -7,7 +7,7 @@
 --   Demand1, demand-1              demand 1: refusals and buffers
 --   Demand2, demand-2              demand 2: acceptance, the code made, the run and each of its states
 --   Demand3, demand-3              demand 3: the ends of compiled code under every schedule are those that the rules permit
---   Exact, exact                   neither of its bounds can be smaller
+--   Exact, exact                   its bounds are met, at two nodes and at one: neither can be less by one
 --   room-enough                    a code buffer of 8,184 bytes is never too small
 --   Relied, relied                 what document 01 says besides of compiled code, and a worker counts on
 --
@@ -172,7 +172,7 @@ pub record Demand2 : Type 0 where
       × (drop (recordBytes * compiled table buffer .length) (compileLeaves table buffer)
       ≡ drop (recordBytes * compiled table buffer .length) buffer)
   -- "each state and both counts are those of the rules": a step of the machine leads from the rules' state after so many steps to
-  -- the next (`machine`, `EachStep`). The run's loop takes no other.
+  -- the next (`machine`, `EachStep`). That the run's loop holds just these states is its invariant there (`Underway`).
   pub states : EachStep
   -- The end and both counts of a run are those of the rules' steps, one by one, from a fresh state.
   pub run : (status : ℕ) (code schedule stack : List ℕ) → firstRefusal (runTests status code stack) ≡ none
@@ -200,7 +200,7 @@ module _ (table buffer : List ℕ) (i : Status) (stack : List ℕ) where
     pub meets : (v : End) → Gives (recipe table) i v
         → (schedule : List ℕ) × Bytes schedule × AsksNothingFrom (mostPlaced n) (asks schedule) × EndsIn v (under schedule)
 
--- Neither bound can be smaller.
+-- The bounds are met, the one at two nodes and the other at one, so neither can be less by one.
 pub record Exact : Type 0 where
   pub accepted : (compiled openedOne codeBuffer .refusal ≡ 0) × (compiled justNine codeBuffer .refusal ≡ 0)
   -- Unblock (Val 1) from blocked, with a recall at its RESET, takes just so many steps.

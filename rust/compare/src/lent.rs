@@ -10,7 +10,8 @@ use std::slice;
 /// The longest buffer that can be lent: more than twice what a length of 16 bits can say.
 pub const MOST: usize = 192 * 1024;
 
-const PAGE: usize = 4096;
+/// A multiple of the system's pages, which are of 4, 16 or 64 KiB.
+const PAGE: usize = 64 * 1024;
 const GUARDS: usize = 64;
 const GUARD: u8 = 0xc3;
 /// Between the two pages.

@@ -1,5 +1,5 @@
--- Runs over bytes that meet the bounds of demand 3, so that neither can be smaller (`Demands` of `salnegris` says so). By
--- computation; what must come was worked out from document 01 by hand.
+-- Runs over bytes that meet the bounds of demand 3, the one at two nodes and the other at one, so that neither can be less by one
+-- (`Demands` of `salnegris` says so). By computation; what must come was worked out from document 01 by hand.
 --
 --   openedOne-accepted, justNine-accepted   both tables are accepted
 --   openedOne-cut    Unblock (Val 1), two nodes, from blocked: a recall at its RESET takes 5 steps, 3n - 1

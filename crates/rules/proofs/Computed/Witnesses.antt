@@ -1,5 +1,5 @@
 -- Small runs that tell the rules from what is easily taken for them (document 01, "Easy to get wrong"), and that both bounds of
--- demand 3 are met, so that neither can be smaller. By computation; what must come was worked out from document 01 by hand.
+-- demand 3 are met, so that neither can be less by one. By computation; what must come was worked out from document 01 by hand.
 --
 --   as-witnessed   each run comes to its answer
 --   bounds-met     a recall at the RESET of an Unblock takes 3n - 1 steps and reaches 2n - 1 instructions
