@@ -328,7 +328,7 @@ int main(int argc, char **argv) {
         fputs("usage: worker FOLDER..\n", stderr);
         return FAILED;
     }
-    /* A reader that went away, or a file that may not grow, is then told like a full disk. A program that you start inherits it. */
+    /* A reader that went away, or a file that may not grow, is then told like a full disk. What you start inherits both. */
     signal(SIGPIPE, SIG_IGN);
 #ifdef SIGXFSZ
     signal(SIGXFSZ, SIG_IGN);

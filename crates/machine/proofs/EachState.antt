@@ -1,5 +1,5 @@
--- A step of the machine leads from one of the rules' states to the next (document 01, "each state and both counts are those of the
--- rules").
+-- A step of the machine leads from one of the rules' states to the next (document 01, "each state and both counts are those of
+-- the rules").
 --
 --   Holds        after its steps the machine, with its stack, holds the rules' state after so many
 --   begins       a fresh machine does

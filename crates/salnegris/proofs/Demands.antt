@@ -121,8 +121,8 @@ compile-answers = compile-proof.met
 pub run-answers : {M : Type 1} → run-statement.statement M
 run-answers = run-proof.met
 
--- What they ask and what they say (`src/lib.rt`), word by word, so that a word less breaks this page: they ask nothing, and say by
--- equation what is the answer and what is left in the buffer, so that no second answer meets them.
+-- What they ask and what they say (`src/lib.rt`), word by word, so that a word less breaks this page: they ask nothing, and say
+-- by equation what is the answer and what is left in the buffer, so that no second answer meets them.
 module _ (lifetimes : Lfts 2) (table buffer : RefT (List ℕ)) where
   pub compile-asks : compile-promise.Asked lifetimes (table, (buffer, tt)) ≡ Unit {0}
   compile-asks = refl

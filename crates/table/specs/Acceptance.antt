@@ -1,8 +1,8 @@
 -- What acceptance says of a table (document 01, "The recipe table"), for the functions that walk down an accepted one.
 --
 --   Falling         "an operand is a node number below the node that names it", for the first n nodes
---   AcceptedTable   the tests 1, 4 and 5, as facts: what a walk down the table rests on. The tests 2 and 3 say that a record has a
---                   kind and no stray byte; a record that they refuse says a node all the same (`Table.nodeAt`)
+--   AcceptedTable   the tests 1, 4 and 5, as facts: what a walk down the table rests on. The tests 2 and 3 say that a record has
+--                   a kind and no stray byte; a record that they refuse says a node all the same (`Table.nodeAt`)
 --   AcceptedNode    a node of such a table
 --   Says            what a node of such a table says: its expression, by its operands' expressions, and that they lie below
 --

@@ -53,4 +53,5 @@ module _ (code : List Instruction) (placing : Placing) (i : Status) where
       rw same (ap (run code placing all) (sym (Option·some-injective _ _ at)))
   run-from (suc k) left all e s at =
       let last = before k at in
-      sym (run-next code placing (last .state) left (last .taken)) ∙ run-from k (suc left) all (omega (arith, e)) (last .state) (last .at)
+      sym (run-next code placing (last .state) left (last .taken))
+      ∙ run-from k (suc left) all (omega (arith, e)) (last .state) (last .at)
