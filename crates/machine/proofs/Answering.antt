@@ -16,7 +16,7 @@ use mathlib.Core.Path.{_≡_, sym, _∙_}
 use Rattle.rules.specs.Answers.{statusNumbered}
 use Rattle.rules.specs.Checking.{checkAnswer}
 use Rattle.rules.specs.CodeBytes.{instructions, codeTests}
-use Rattle.rules.specs.Limits.{codeLimit, stackBytes}
+use Rattle.rules.specs.Limits.{codeLimit, stackBytes, stepLimit}
 use Rattle.rules.specs.Refusals.{unless, firstRefusal}
 use Rattle.rules.specs.Run.{runs}
 use Rattle.rules.specs.Running.{runTests, refusedAnswer, runAnswer, runLeaves}
@@ -63,8 +63,12 @@ module _ (status : ℕ) (code schedule stack : List ℕ) where
             × (replicate stackBytes 0 ++ drop stackBytes stack ≡ runLeaves status code stack)
         ran = let (answer, leaves) = run-passed status code schedule stack (then-code ∙ passed) in (sym answer, sym leaves)
 
-        pub runnable : Runnable code stack
+        pub runnable : Runnable code stack stepLimit
         unfolding codeTests
         runnable =
             let (sized, later) = first-none _ _ passed in
-            record { few = whole-means codeLimit code (unless-passed _ CodeSize 0 sized) .few; room = room }
+            record {
+              few = whole-means codeLimit code (unless-passed _ CodeSize 0 sized) .few;
+              room = room;
+              steps = omega arith;
+            }

@@ -38,14 +38,15 @@ pub fn run(status: u8, code: &[u8], schedule: &[u8], stack: &mut [u8]) -> Answer
     }
     match code::check(code) {
         Checked::Accepted(_) => {
-            let answer = steps::repeat(
+            let stopped = steps::repeat(
                 numbers::status::of_number(status as u32),
                 code,
                 schedule,
                 stack,
+                Machine::STEPS,
             );
             record::field::clear(stack, Machine::STACK_BYTES);
-            answer
+            stopped.answer()
         }
         Checked::Refused(refusal) => refused(refusal),
     }

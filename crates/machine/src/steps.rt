@@ -8,13 +8,40 @@ use rules::End;
 use rules::Outcome;
 use rules::Reason;
 use rules::Status;
-ghost use Rattle.machine.specs.Runs.{Runnable, Ran};
+ghost use mathlib.Core.Path.{_≡_};
+ghost use Rattle.machine.specs.Runs.{Runnable, Ran, answerOf};
 
-// "An end or 14 at the length comes before 15, 15 before a step." The loop is left with its end as its value. The inner one takes
-// a step, and goes on as long as that unwinds.
-pub(crate) fn repeat(status: Status, code: &[u8], schedule: &[u8], stack: &mut [u8]) -> Answer
-    requires { ⌜ Runnable (now code) (now stack) ⌝ }
-    ensures { λ r. ⌜ Ran status (now (code .entry)) (now (schedule .entry)) (now (stack .entry)) r (now (stack .exit)) ⌝ }
+// Where a run has stopped: the machine as it then is, and what the run came to.
+pub(crate) struct Stopped {
+    pub machine: Machine,
+    pub outcome: Outcome,
+}
+
+impl Stopped {
+    pub(crate) fn answer(self) -> Answer
+        ensures { λ r. ⌜ r ≡ answerOf self ⌝ }
+    {
+        let machine = self.machine;
+        let outcome = self.outcome;
+        Answer {
+            outcome,
+            steps: machine.steps,
+            reached: machine.reached,
+        }
+    }
+}
+
+// At most so many steps. "An end or 14 at the length comes before 15, 15 before a step." The loop is left with its end as its
+// value. The inner one takes a step, and goes on as long as that unwinds.
+pub(crate) fn repeat(
+    status: Status,
+    code: &[u8],
+    schedule: &[u8],
+    stack: &mut [u8],
+    most: usize,
+) -> Stopped
+    requires { ⌜ Runnable (now code) (now stack) most ⌝ }
+    ensures { λ r. ⌜ Ran status (now (code .entry)) (now (schedule .entry)) (now (stack .entry)) most r (now (stack .exit)) ⌝ }
 {
     let length = code.len() / 8;
     let mut machine = Machine::new(status);
@@ -23,7 +50,7 @@ pub(crate) fn repeat(status: Status, code: &[u8], schedule: &[u8], stack: &mut [
             break machine.at_length(stack);
         }
         loop {
-            if machine.steps == Machine::STEPS {
+            if machine.steps == most {
                 break 'run refused(Reason::Steps, 0);
             }
             match machine.step(code, schedule, stack) {
@@ -39,9 +66,5 @@ pub(crate) fn repeat(status: Status, code: &[u8], schedule: &[u8], stack: &mut [
             }
         }
     };
-    Answer {
-        outcome,
-        steps: machine.steps,
-        reached: machine.reached,
-    }
+    Stopped { machine, outcome }
 }

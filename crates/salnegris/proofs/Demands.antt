@@ -172,7 +172,7 @@ pub record Demand2 : Type 0 where
       × (drop (recordBytes * compiled table buffer .length) (compileLeaves table buffer)
       ≡ drop (recordBytes * compiled table buffer .length) buffer)
   -- "each state and both counts are those of the rules": a step of the machine leads from the rules' state after so many steps to
-  -- the next (`machine`, `EachStep`). That the run's loop holds just these states is its invariant there (`Underway`).
+  -- the next, and the loop, told to take at most k steps, stops in the one after k (`machine`, `EachStep`).
   pub states : EachStep
   -- The end and both counts of a run are those of the rules' steps, one by one, from a fresh state.
   pub run : (status : ℕ) (code schedule stack : List ℕ) → firstRefusal (runTests status code stack) ≡ none

@@ -1,6 +1,7 @@
 -- `machine::run` meets its contract: the tests in their order, then the run, then the stack cleared. Assumes nothing.
 use borrow.Author.Needs.{needs}
 use mathlib.Core.Path.{sym, _∙_}
+use Rattle.rules.specs.Run.{runs}
 use Rattle.machine.proofs.Answering.{status-refused, stack-refused, code-refused, ran, runnable}
 use Rattle.machine.proofs.run.Statement.{statement}
 use Rattle.machine.proofs.run.Tie as tie
@@ -30,8 +31,9 @@ repeat-requires c κs =
     (sym (checked .check .ensures) ∙ told .enum-told .given .1)
 
 returns-3 : tie.Need-returns-3
+unfolding runs
 returns-3 c =
-    let repeated = c .before .before .before .before .before .before in
+    let repeated = c .before .before .before .before .before .before .before in
     let status = repeated .before .before in
     let told = status .before in
     let checked = told .before .before in
@@ -41,8 +43,10 @@ returns-3 c =
     let (answer, leaves) =
     ran (s .status) (s .code .now) (s .schedule .now) (s .stack .now) (right .if1 .left) (room .if2 .left)
     (sym (checked .check .ensures) ∙ told .enum-told .given .1) in
-    let run = repeated .repeat .ensures in
-    (run .answered ∙ rw (status .of-number .ensures) answer, c .before .before .clear .ensures ∙ rw (run .beyond) leaves)
+    let run = repeated .repeat .ensures in (
+      c .answer .ensures ∙ run .answered ∙ rw (status .of-number .ensures) answer,
+      c .before .before .before .clear .ensures ∙ rw (run .beyond) leaves,
+    )
 
 returns-4 : tie.Need-returns-4
 returns-4 c =
@@ -65,6 +69,6 @@ run-spec =
     returns-2
     (search needs) (search needs) (search needs)
     repeat-requires
-    (search needs) (search needs) (search needs) (search needs)
+    (search needs) (search needs) (search needs) (search needs) (search needs)
     returns-3
     returns-4)

@@ -1,10 +1,13 @@
 -- The states of a run, one after another (`specs/Run`, `stateAfter`).
 --
 --   state-next    a step that is taken from one of them gives the next
+--   same-state    there is one after so many steps
+--   none-later    where no step is taken, there is none later
 --   run-from      the run from one of them, with the steps that are left, is the whole run
 --
 -- Assumes nothing.
-use Prim.Native.Nat.{ℕ, zero, suc, _+_}
+use Prim.Native.Nat.{ℕ, zero, suc, _+_, _<_}
+use native.Mathlib.Decide.{decLt}
 use native.Mathlib.Omega.{arith}
 use mathlib.Core.List.{List}
 use mathlib.Core.Option.{Option, none, some, Option·some-injective, Option·none-ne-some}
@@ -22,6 +25,24 @@ module _ (code : List Instruction) (placing : Placing) (i : Status) where
   pub state-next : (k : ℕ) {s next : State} → After k s → step code placing s ≡ Next next → After (suc k) next
   unfolding stateAfter stepFrom nextOf
   state-next k at taken = rw (at, stepFrom, taken)
+
+  pub same-state : (k : ℕ) {s t : State} → After k s → After k t → s ≡ t
+  same-state k at also = Option·some-injective _ _ (sym at ∙ also)
+
+  later-none : (k : ℕ) {s : State} → After k s → nextOf (step code placing s) ≡ none → (n : ℕ) → k < n
+      → stateAfter code placing i n ≡ none
+  unfolding stateAfter stepFrom
+  later-none k at stopped zero past = absurd (omega arith)
+  later-none k at stopped (suc n) past = elim (decLt k n) [
+    | yes past-it ↦ rw (later-none k at stopped n past-it, stepFrom)
+    | no not-past ↦
+        let here : n ≡ k = omega (arith, past, not-past) in
+        rw (here, at, stepFrom) stopped
+  ]
+
+  pub none-later : (k : ℕ) {s : State} → After k s → nextOf (step code placing s) ≡ none → (n : ℕ) → k < n
+      → {t : State} → After n t → ⊥
+  none-later k at stopped n past later = Option·none-ne-some _ (sym (later-none k at stopped n past) ∙ later)
 
   -- what stands before a state that a step led to
   record Before (k : ℕ) (next : State) : Type 0 where

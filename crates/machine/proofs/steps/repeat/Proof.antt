@@ -1,40 +1,43 @@
 -- `machine::steps::repeat` meets its contract. The invariant of both loops: after so many steps the machine holds the state that
 -- the rules have after so many. The measure is how many steps are left. Assumes nothing.
-use Prim.Native.Nat.{_-_, _<_}
+use Prim.Native.Nat.{ℕ, _-_, _<_}
 use native.Mathlib.Omega.{arith}
 use borrow.Author.Needs.{needs}
+use lib.ListN.{drop}
 use mathlib.Core.Bool.{false, not, Bool·not-not}
+use mathlib.Core.List.{List}
 use mathlib.Core.Path.{_≡_, refl, sym, ap, _∙_}
-use Rattle.rules.specs.CodeBytes.{instructions}
-use Rattle.rules.specs.Limits.{stepLimit}
-use Rattle.rules.specs.Run.{runs}
-use Rattle.rules.specs.Schedule.{asks}
+use Rattle.rules.specs.Limits.{stackBytes}
+use Rattle.rules.specs.declared.Outcome.{Outcome}
+use Rattle.machine.specs.Runs.{Ran}
 use Rattle.machine.specs.States.{HasStep}
-use Rattle.machine.proofs.Underway.{Underway, Onward, underway-fresh, goes-on, out-of-steps}
+use Rattle.machine.specs.declared.state.Machine.{Machine}
+use Rattle.machine.proofs.Underway.{Underway, Onward, Stops, underway-fresh, goes-on, out-of-steps}
 use Rattle.machine.proofs.Turns.{at-the-length, nothing-to-unwind, at-an-instruction, an-item-to-unwind, steppable}
 use Rattle.machine.proofs.Turns.{full, no-rule}
 use Rattle.machine.proofs.steps.repeat.Statement.{statement}
 use Rattle.machine.proofs.steps.repeat.Tie as tie
 
 abbrev Inv-loop : tie.InvT-loop
-Inv-loop code schedule stack₀ n machine₀ stack machine = Onward code schedule stack₀ stack machine₀ machine × HasStep code machine
+Inv-loop code schedule stack₀ most n machine₀ stack machine =
+    Onward code schedule most stack₀ stack machine₀ machine × HasStep code machine
 
 abbrev μ-loop : tie.MeasureT-loop
-μ-loop code schedule stack₀ n machine₀ stack machine = stepLimit - machine .steps
+μ-loop code schedule stack₀ most n machine₀ stack machine = most - machine .steps
 
 abbrev Inv-run : tie.InvT-run
-Inv-run code schedule stack₀ n machine₀ stack machine =
-    Underway (machine₀ .status) code schedule stack₀ stack machine × (machine .unwinding ≡ false)
+Inv-run code schedule stack₀ most n machine₀ stack machine =
+    Underway (machine₀ .status) code schedule most stack₀ stack machine × (machine .unwinding ≡ false)
 
 abbrev μ-run : tie.MeasureT-run
-μ-run code schedule stack₀ n machine₀ stack machine = stepLimit - machine .steps
+μ-run code schedule stack₀ most n machine₀ stack machine = most - machine .steps
 
 -- ---- the outer loop
 
 run-holds : tie.Need-run-holds Inv-loop μ-loop Inv-run μ-run
 run-holds c =
     let s = c .before .before .before .before .args in
-    rw (c .new .ensures) (underway-fresh (s .status) (s .code .now) (s .schedule .now) (s .stack .now), refl)
+    rw (c .new .ensures) (underway-fresh (s .status) (s .code .now) (s .schedule .now) (s .most) (s .stack .now), refl)
 
 at-length-requires : tie.Need-at-length-requires Inv-loop μ-loop Inv-run μ-run
 at-length-requires c κs =
@@ -55,7 +58,8 @@ loop-holds c =
 within : (c : tie.At-loop Inv-loop μ-loop Inv-run μ-run) →
     let new = c .before .before .before .before in
     let s = new .before .before .before .before .args in
-    Underway (new .new .result .status) (s .code .now) (s .schedule .now) (s .stack .now) (c .loop .stack) (c .loop .machine)
+    Underway (new .new .result .status) (s .code .now) (s .schedule .now) (s .most) (s .stack .now) (c .loop .stack)
+    (c .loop .machine)
 within c = c .loop .inv .0 .underway _ _ (c .before .before .before .run .inv .0)
 
 step-requires : tie.Need-step-requires Inv-loop μ-loop Inv-run μ-run
@@ -72,7 +76,8 @@ on : (c : tie.After-known-told Inv-loop μ-loop Inv-run μ-run) →
     let start = turn .before .before .before in
     let s = start .before .before .before .before .before .args in
     (turn .loop .machine .steps < c .before .next .given .0 .0 .steps)
-    × Onward (s .code .now) (s .schedule .now) (start .run .stack) (step .step .last .1 .1 .1 .0) (start .run .machine)
+    × Onward (s .code .now) (s .schedule .now) (s .most) (start .run .stack) (step .step .last .1 .1 .1 .0)
+    (start .run .machine)
     (c .before .next .given .0 .0)
 on c =
     let step = c .before .before .before .before .before in
@@ -94,7 +99,8 @@ after : (c : tie.After-known-told Inv-loop μ-loop Inv-run μ-run) →
     let step = c .before .before .before .before .before in
     let new = step .before .before .before .before .before .before .before .before in
     let s = new .before .before .before .before .args in
-    Underway (new .new .result .status) (s .code .now) (s .schedule .now) (s .stack .now) (step .step .last .1 .1 .1 .0)
+    Underway (new .new .result .status) (s .code .now) (s .schedule .now) (s .most) (s .stack .now)
+    (step .step .last .1 .1 .1 .0)
     (c .before .next .given .0 .0)
 after c =
     let turn = c .before .before .before .before .before .before .before .before .before in
@@ -120,11 +126,15 @@ loop-again c =
 
 -- ---- the ends
 
--- the whole run is from the status that was given
-whole : (c : tie.After-new Inv-loop μ-loop Inv-run μ-run) → let s = c .before .before .before .before .args in
-    runs (instructions (s .code .now)) (asks (s .schedule .now)) (c .new .result .status)
-    ≡ runs (instructions (s .code .now)) (asks (s .schedule .now)) (s .status)
-whole c = rw (c .new .ensures)
+-- the run is from the status that was given
+ran : (c : tie.After-new Inv-loop μ-loop Inv-run μ-run) (stack : List ℕ) (m : Machine) (o : Outcome) →
+    let s = c .before .before .before .before .args in
+    Stops (c .new .result .status) (s .code .now) (s .schedule .now) (s .most) stack m o
+    → drop stackBytes stack ≡ drop stackBytes (s .stack .now)
+    → Ran (s .status) (s .code .now) (s .schedule .now) (s .stack .now) (s .most) (record { machine = m; outcome = o }) stack
+ran c stack m o end beyond =
+    let here = rw (c .new .ensures) at end in
+    record { answered = here .answered; state = here .state; beyond = beyond }
 
 same-length : tie.Need-same-length Inv-loop μ-loop Inv-run μ-run
 same-length c = c .before .before .before .before .run .inv .0 .size
@@ -135,7 +145,7 @@ returns c =
     let head = past .before .before in
     let (so-far, running) = head .run .inv in
     let end = at-the-length so-far running (past .if1 .taken) (c .at-length .ensures) in
-    record { answered = end ∙ whole (head .before); beyond = so-far .beyond }
+    ran (head .before) _ _ _ end (so-far .beyond)
 
 same-length-2 : tie.Need-same-length-2 Inv-loop μ-loop Inv-run μ-run
 same-length-2 c = within (c .before .before .before) .size
@@ -145,10 +155,7 @@ returns-2 c =
     let turn = c .before .before .before in
     let so-far = within turn in
     let end = out-of-steps so-far (turn .loop .inv .1) (c .before .if2 .taken) in
-    record {
-      answered = rw (c .refused .ensures) (end ∙ whole (turn .before .before .before .before));
-      beyond = so-far .beyond;
-    }
+    rw (c .refused .ensures) (ran (turn .before .before .before .before) _ _ _ end (so-far .beyond))
 
 same-length-3 : tie.Need-same-length-3 Inv-loop μ-loop Inv-run μ-run
 same-length-3 c =
@@ -165,10 +172,7 @@ returns-3 c =
     let so-far = within turn in
     let does = rw (no-room .enum-told .given .1) at (step .step .ensures) in
     let end = full so-far (left .if2 .left) does in
-    record {
-      answered = rw (c .refused2 .ensures) (end ∙ whole (turn .before .before .before .before));
-      beyond = does .beyond ∙ so-far .beyond;
-    }
+    rw (c .refused2 .ensures) (ran (turn .before .before .before .before) _ _ _ end (does .beyond ∙ so-far .beyond))
 
 same-length-4 : tie.Need-same-length-4 Inv-loop μ-loop Inv-run μ-run
 same-length-4 c =
@@ -183,10 +187,7 @@ returns-4 c =
     let so-far = within turn in
     let does = rw (c .before .enum-told2 .given .1) at (step .step .ensures) in
     let end = no-rule so-far (left .if2 .left) does in
-    record {
-      answered = rw (c .refused3 .ensures) (end ∙ whole (turn .before .before .before .before));
-      beyond = does .beyond ∙ so-far .beyond;
-    }
+    rw (c .refused3 .ensures) (ran (turn .before .before .before .before) _ _ _ end (does .beyond ∙ so-far .beyond))
 
 same-length-5 : tie.Need-same-length-5 Inv-loop μ-loop Inv-run μ-run
 same-length-5 c = after (c .before .before .before .before) .size
@@ -198,10 +199,8 @@ returns-5 c =
     let turn = taken .before .before .before .before .before .before .before .before .before in
     let unwinding = sym (Bool·not-not _) ∙ ap not (turned .if3 .left) in
     let so-far = after taken in
-    record {
-      answered = nothing-to-unwind so-far unwinding (c .if4 .taken) ∙ whole (turn .before .before .before .before);
-      beyond = so-far .beyond;
-    }
+    let end = nothing-to-unwind so-far unwinding (c .if4 .taken) in
+    ran (turn .before .before .before .before) _ _ _ end (so-far .beyond)
 
 pub repeat-spec : {M : Type 1} → statement M
 repeat-spec =
