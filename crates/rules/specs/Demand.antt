@@ -6,23 +6,21 @@
 --   mostReached       2n - 1, also the most instructions of its code
 --   Ends              an answer is a permitted number or throw, within both
 --   AsksNothingFrom   a placing asks for no recall from some instruction on
---   Meets             a run from one state comes to another
 --   Demand            the claim
 --
 -- Assumes nothing.
 use Prim.Native.Nat.{ℕ, _*_, _-_, _≤_}
 use lib.ListN.{length}
 use mathlib.Core.Bool.{false}
-use mathlib.Core.List.{List}
 use mathlib.Core.Logic.{_↔_}
+use mathlib.Core.Option.{some}
 use mathlib.Core.Path.{_≡_}
 use Rattle.rules.specs.Code.{codeLength, compile}
 use Rattle.rules.specs.Evaluation.{Gives, quiet}
 use Rattle.rules.specs.Expression.{Expression, nodes}
-use Rattle.rules.specs.Machine.{State, fresh, Placing, Next, step}
-use Rattle.rules.specs.Run.{runs}
+use Rattle.rules.specs.Machine.{State, Placing}
+use Rattle.rules.specs.Run.{runs, stateAfter}
 use Rattle.rules.specs.declared.Status.{Status}
-use Rattle.rules.specs.declared.Instruction.{Instruction}
 use Rattle.rules.specs.declared.End.{End}
 use Rattle.rules.specs.declared.Outcome.the-variants.{Ended}
 use Rattle.rules.specs.declared.Answer.{Answer}
@@ -49,10 +47,6 @@ AsksNothingFrom n placing = (k : ℕ) → n ≤ k → placing k ≡ false
 abbrev pub noRecall : Placing
 noRecall k = false
 
-pub data Meets (code : List Instruction) (placing : Placing) : State → State → Type 0 where
-  here : {s : State} → Meets code placing s s
-  later : {s next met : State} → step code placing s ≡ Next next → Meets code placing next met → Meets code placing s met
-
 pub record Demand (e : Expression) (i : Status) : Type 0 where
   -- "Every placing, however long, ends in a number or a throw within 3n - 1 steps", and the rules permit that end
   pub ends : (placing : Placing) → Ends e i (ofExpression e placing i)
@@ -62,7 +56,8 @@ pub record Demand (e : Expression) (i : Status) : Type 0 where
   -- "a number, or a throw, is the end of its compiled code under some placing exactly when the evaluation rules permit that end"
   pub exactly : (v : End) → ((placing : Placing) × (ofExpression e placing i .outcome ≡ Ended v)) ↔ Gives e i v
   -- the stack never holds more items than there are nodes
-  pub items : (placing : Placing) (s : State) → Meets (compile 0 e) placing (fresh i) s → length (s .items) ≤ nodes e
+  pub items : (placing : Placing) (k : ℕ) (s : State) → stateAfter (compile 0 e) placing i k ≡ some s
+      → length (s .items) ≤ nodes e
   -- "The code length is the sum of the last column above, at most 2n - 1"
   pub column : length (compile 0 e) ≡ codeLength e
   pub short : codeLength e ≤ mostReached e

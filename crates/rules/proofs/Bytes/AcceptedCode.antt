@@ -18,15 +18,16 @@ use Rattle.rules.specs.Bytes.{records}
 use Rattle.rules.specs.CodeBytes.{OpcodeRow, opcodes, opcodeNumbered, opcodeAt, operandAt, instructionAt, instructions}
 use Rattle.rules.specs.CodeBytes.{targetFits, instructionTest, codeTests}
 use Rattle.rules.specs.Code.{targetOf}
-use Rattle.rules.specs.Demand.{Meets}
-use Rattle.rules.specs.Machine.{State, fresh, Placing}
+use Rattle.rules.specs.Machine.{State, Placing}
 use Rattle.rules.specs.Refusals.{firstRefusal}
+use Rattle.rules.specs.Run.{stateAfter}
 use Rattle.rules.specs.declared.Reason.{Reason}
 use Rattle.rules.specs.declared.Status.{Status}
 use Rattle.rules.proofs.Bytes.Instructions.{length-instructions, instruction-found}
 use Rattle.rules.proofs.Lists.{below-found, done, _▸_, each-row}
 use Rattle.rules.proofs.Refusals.{unless-passed, first-none, lowest-none}
 use Rattle.rules.proofs.Step.Addresses.{Within, Bounded, meets-within}
+use Rattle.rules.proofs.Step.States.{state-met}
 
 -- of each opcode of document 01's list, whatever its operand
 target-within : (word a n opcode : ℕ) {row : OpcodeRow} → opcodeNumbered opcode ≡ some row
@@ -63,8 +64,9 @@ module _ (bytes : List ℕ) (passed : firstRefusal (codeTests bytes) ≡ none) w
         rw same at (instruction-within bytes a (opcodeAt bytes a) refl (instruction-passed a below));
   }
 
-  pub never-past : (placing : Placing) (i : Status) {s : State} → Meets (instructions bytes) placing (fresh i) s
+  pub never-past : (placing : Placing) (i : Status) (k : ℕ) (s : State) → stateAfter (instructions bytes) placing i k ≡ some s
       → Within (records bytes) s
-  never-past placing i meets =
+  never-past placing i k s at =
       let long : length (instructions bytes) ≤ records bytes = rw (length-instructions bytes) (omega arith) in
-      meets-within bounded-accepted long placing (record { address = omega arith; handlers = tt }) meets
+      meets-within bounded-accepted long placing (record { address = omega arith; handlers = tt })
+      (state-met (instructions bytes) placing i k s at)

@@ -14,7 +14,6 @@ use mathlib.Core.List.{List, [], _∷_}
 use mathlib.Core.Option.{some}
 use mathlib.Core.Path.{_≡_}
 use Rattle.rules.specs.Code.{targetOf}
-use Rattle.rules.specs.Demand.{Meets, here, later}
 use Rattle.rules.specs.Machine.{State, Mode, Running, Unwinding, Step, Placing, Next, Over, Stuck, step}
 use Rattle.rules.specs.declared.Instruction.{Instruction}
 use Rattle.rules.specs.declared.Item.{Item}
@@ -24,6 +23,7 @@ use Rattle.rules.proofs.Lists.{below-found}
 use Rattle.rules.proofs.Step.Effects.{Pushes, number, handler, saved, Takes, Change}
 use Rattle.rules.proofs.Step.Effects.{pushed, popped, replaced, thrown, carried, refused}
 use Rattle.rules.proofs.Step.Effects.{Undoes, removed, empty, Stepped, instruction, ended, unended, unwinding, step-effect}
+use Rattle.rules.proofs.Step.States.{Meets, here, later}
 
 -- ---- states and codes within n
 

@@ -4,6 +4,8 @@
 --   same-state    there is one after so many steps
 --   none-later    where no step is taken, there is none later
 --   run-from      the run from one of them, with the steps that are left, is the whole run
+--   Meets         a state that a run from another one comes to, for laws that go along a run
+--   state-met     each of them is met from the fresh one
 --
 -- Assumes nothing.
 use Prim.Native.Nat.{ℕ, zero, suc, _+_, _<_}
@@ -17,6 +19,15 @@ use Rattle.rules.specs.Run.{run, nextOf, stepFrom, stateAfter}
 use Rattle.rules.specs.declared.Instruction.{Instruction}
 use Rattle.rules.specs.declared.Status.{Status}
 use Rattle.rules.proofs.Step.Order.{run-next}
+
+pub data Meets (code : List Instruction) (placing : Placing) : State → State → Type 0 where
+  here : {s : State} → Meets code placing s s
+  later : {s next met : State} → step code placing s ≡ Next next → Meets code placing next met → Meets code placing s met
+
+then-next : {code : List Instruction} {placing : Placing} {s met next : State} → Meets code placing s met
+    → step code placing met ≡ Next next → Meets code placing s next
+then-next here taken = later taken here
+then-next (later first meets) taken = later first (then-next meets taken)
 
 module _ (code : List Instruction) (placing : Placing) (i : Status) where
   abbrev After : ℕ → State → Type 0
@@ -36,13 +47,13 @@ module _ (code : List Instruction) (placing : Placing) (i : Status) where
   later-none k at stopped (suc n) past = elim (decLt k n) [
     | yes past-it ↦ rw (later-none k at stopped n past-it, stepFrom)
     | no not-past ↦
-        let here : n ≡ k = omega (arith, past, not-past) in
-        rw (here, at, stepFrom) stopped
+        let same : n ≡ k = omega (arith, past, not-past) in
+        rw (same, at, stepFrom) stopped
   ]
 
   pub none-later : (k : ℕ) {s : State} → After k s → nextOf (step code placing s) ≡ none → (n : ℕ) → k < n
       → {t : State} → After n t → ⊥
-  none-later k at stopped n past later = Option·none-ne-some _ (sym (later-none k at stopped n past) ∙ later)
+  none-later k at stopped n past there = Option·none-ne-some _ (sym (later-none k at stopped n past) ∙ there)
 
   -- what stands before a state that a step led to
   record Before (k : ℕ) (next : State) : Type 0 where
@@ -76,3 +87,8 @@ module _ (code : List Instruction) (placing : Placing) (i : Status) where
       let last = before k at in
       sym (run-next code placing (last .state) left (last .taken))
       ∙ run-from k (suc left) all (omega (arith, e)) (last .state) (last .at)
+
+  pub state-met : (k : ℕ) (s : State) → After k s → Meets code placing (fresh i) s
+  unfolding stateAfter
+  state-met zero s at = rw (sym (Option·some-injective _ _ at)) here
+  state-met (suc k) s at = let last = before k at in then-next (state-met k (last .state) (last .at)) (last .taken)

@@ -13,7 +13,6 @@ use lib.IntN.{ℤ}
 use lib.ListN.{length}
 use mathlib.Core.List.{List, [], _∷_}
 use mathlib.Core.Path.{_≡_, refl, ap, _∙_}
-use Rattle.rules.specs.Demand.{Meets, here, later}
 use Rattle.rules.specs.Limits.{stepLimit}
 use Rattle.rules.specs.Machine.{State, fresh, Placing, Next, Over, withNumber}
 use Rattle.rules.specs.Machine.{withNothing, atLength, unwind, stepAt, stepIn, step}
@@ -26,6 +25,7 @@ use Rattle.rules.specs.declared.Outcome.{Outcome}
 use Rattle.rules.specs.declared.Outcome.the-variants.{Ended}
 use Rattle.rules.proofs.Lists.{missing-past}
 use Rattle.rules.proofs.Step.Order.{running, unwinding, run-next, run-over}
+use Rattle.rules.proofs.Step.States.{Meets, here, later}
 use Rattle.rules.proofs.Theory.Path.{Goes, Path, done, _▸_}
 
 -- ---- where a path is over

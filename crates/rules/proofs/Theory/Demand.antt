@@ -22,6 +22,7 @@ use Rattle.rules.specs.declared.Status.{Status}
 use Rattle.rules.specs.declared.End.{End}
 use Rattle.rules.specs.declared.Outcome.{Outcome}
 use Rattle.rules.specs.declared.Outcome.the-variants.{Ended}
+use Rattle.rules.proofs.Step.States.{state-met}
 use Rattle.rules.proofs.Theory.Along.{Finishes, number-finishes, throw-finishes, finished, agree, met-fits}
 use Rattle.rules.proofs.Theory.Completeness.{bits, length-bits, Reads, none, bit, Comes, by, arrival, arrives}
 use Rattle.rules.proofs.Theory.Holding.{Holds, compile-holds, length-compile, codeLength-nodes}
@@ -142,7 +143,9 @@ module _ (e : Expression) (small : nodes e ≤ nodeLimit) (i : Status) where
         ends = ends;
         meets = meets;
         exactly = λ v. ((λ p. only-permitted v (p .0) (p .1)), λ d. (meets v d .0, meets v d .2));
-        items = λ placing s met. let f : Finish placing = finish placing in met-fits (f .path) (f .finishes) (omega arith) met;
+        items = λ placing k s at.
+            let f : Finish placing = finish placing in
+            met-fits (f .path) (f .finishes) (omega arith) (state-met (compile 0 e) placing i k s at);
         column = length-compile 0 e;
         short = short;
         quietly = comes-to (q .gives) (silent-reads (q .silently [] empty) 0);

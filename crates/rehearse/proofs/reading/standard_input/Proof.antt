@@ -1,6 +1,6 @@
 -- `reading::standard_input` meets its contract: no more is read than there are bytes, and the measure is how many are left.
 -- Assumes nothing.
-use Prim.Native.Nat.{_-_, _≤_}
+use Prim.Native.Nat.{_+_, _-_, _≤_, _<_}
 use native.Mathlib.Omega.{arith}
 use borrow.Author.Needs.{needs}
 use lib.ListN.{length}
@@ -16,22 +16,13 @@ Inv-loop bytes₀ done₀ bytes done = (done ≤ length bytes) × (length bytes 
 abbrev μ-loop : tie.MeasureT-loop
 μ-loop bytes₀ done₀ bytes done = length bytes - done
 
--- after some bytes more: their sum fits, fewer are left, and they are still within the bytes
-
-add-done : tie.Need-add-done Inv-loop μ-loop
-add-done c =
+-- some bytes more: at least one, and no more than were left
+more : (c : tie.After-known-told Inv-loop μ-loop) →
+    let turn = c .before .before .before .before .before .before .before .before .before .before .before in
+    (0 < c .before .more .given .0 .0) × (turn .loop .done + c .before .more .given .0 .0 ≤ length (turn .loop .bytes))
+more c =
     let (some, most) = more-fits _ _ (c .before .before .before .came-to .ensures) (c .before .more .given .1) (search needs) in
-    search needs
-
-loop-less : tie.Need-loop-less Inv-loop μ-loop
-loop-less c =
-    let (some, most) = more-fits _ _ (c .before .before .before .came-to .ensures) (c .before .more .given .1) (search needs) in
-    search needs
-
-loop-again : tie.Need-loop-again Inv-loop μ-loop
-loop-again c =
-    let (some, most) = more-fits _ _ (c .before .before .before .came-to .ensures) (c .before .more .given .1) (search needs) in
-    search needs
+    (some, search needs)
 
 pub standard-input-spec : {M : Type 1} → statement M
 standard-input-spec =
@@ -40,5 +31,6 @@ standard-input-spec =
     (search needs) (search needs) (search needs) (search needs)
     (search needs) (search needs) (search needs)
     (search needs) (search needs) (λ c. counts _ _ (omega arith))
-    (search needs) add-done loop-less loop-again
+    (search needs)
+    (λ c. let fits = more c in search needs) (λ c. let fits = more c in search needs) (λ c. let fits = more c in search needs)
     (search needs) (λ c. search (needs, counts)))
