@@ -1,7 +1,8 @@
 -- What compiling answers and leaves, by what checking answered, what was measured and what was emitted.
 --
 --   last-measurable   the last node of an accepted table can be measured
---   last-emittable    and emitted, if the buffer is long enough
+--   last-short        what is measured is at most 1,023
+--   last-emittable    the last node can be emitted, if the buffer is long enough
 --   table-refused, buffer-refused, compiled
 --                     the three ways to answer, with what is then in the buffer
 --
@@ -16,7 +17,7 @@ use mathlib.Core.Path.{_≡_, ap, sym, _∙_}
 use Rattle.rules.specs.Checking.{checkAnswer}
 use Rattle.rules.specs.Code.{codeLength}
 use Rattle.rules.specs.Compiling.{codeOf, compileTests, compileAnswer, compileLeaves}
-use Rattle.rules.specs.Limits.{recordBytes}
+use Rattle.rules.specs.Limits.{recordBytes, instructionLimit}
 use Rattle.rules.specs.Recipe.{expressionAt, recipe}
 use Rattle.rules.specs.Refusals.{unless, firstRefusal}
 use Rattle.rules.specs.Table.{tableTests}
@@ -55,8 +56,13 @@ module _ (table : List ℕ) {n : ℕ} (answer : checkAnswer tableTests table ≡
 
   pub last-measurable : Measurable table (n - 1)
   last-measurable =
+      let (nonempty, last) = last-node table answer in
+      record { accepted = last .accepted; last = omega (arith, nonempty, check-accepted tableTests table answer .1) }
+
+  pub last-short : codeLength (expressionAt table (n - 1)) ≤ instructionLimit
+  last-short =
       let last = last-node table answer .1 in
-      record { node = last; short = omega (arith, length-recipe, recipe-short (last .accepted)) }
+      omega (arith, length-recipe, recipe-short (last .accepted), last .accepted .few)
 
   module _ (code : List ℕ) {size : ℕ} (measured : size ≡ codeLength (expressionAt table (n - 1))) where
     pub buffer-refused : length code < recordBytes * size
@@ -73,7 +79,7 @@ module _ (table : List ℕ) {n : ℕ} (answer : checkAnswer tableTests table ≡
       room = omega (arith, length-recipe)
 
       pub last-emittable : Emittable table (n - 1) code 0
-      last-emittable = record { node = last-measurable .node; short = omega (arith, last-measurable .short); room = omega arith }
+      last-emittable = record { node = last-node table answer .1; short = omega (arith, last-short); room = omega arith }
 
       passed : firstRefusal (compileTests table code) ≡ none
       unfolding compileTests unless

@@ -3,11 +3,9 @@
 --   Two, One    of a node with two operands, with one
 --   Operands    of a node, kind by kind
 --   operands    so they are
---   left-measurable, right-measurable, only-measurable
---               what can be measured, down to an operand
 --
 -- Assumes nothing.
-use Prim.Native.Nat.{ℕ, _+_, _≤_, _<_}
+use Prim.Native.Nat.{ℕ, _+_, _<_}
 use native.Mathlib.Omega.{arith}
 use mathlib.Core.List.{List, [], _∷_}
 use mathlib.Core.Path.{_≡_, refl, ap, _∙_}
@@ -19,8 +17,7 @@ use Rattle.rules.specs.declared.Node.the-variants.{Val, Throw, Add, Seqn, Catch
 use Rattle.table.specs.Acceptance.{Says}
 use Rattle.table.specs.Column.{column}
 use Rattle.table.proofs.Counting.{sumOver, codeLength-ofNode}
-use Rattle.table.proofs.Acceptance.{node-below, one-below, both-below}
-use Rattle.compiler.specs.Walking.{Measurable}
+use Rattle.table.proofs.Acceptance.{one-below, both-below}
 
 pub record Two (table : List ℕ) (j left right added : ℕ) : Type 0 where
   pub left-below : left < j
@@ -66,7 +63,6 @@ module _ {table : List ℕ} {j : ℕ} {node : Node} (said : Says table j node) w
       record { left-below = first; right-below = second; length = omega (arith, rw names at length-said) }
 
 pub operands : {table : List ℕ} {j : ℕ} (node : Node) → Says table j node → Operands table j node
-unfolding column
 operands (Val n) said = no-operand said refl
 operands Throw said = no-operand said refl
 operands (Add left right) said = two-operands said refl
@@ -74,22 +70,3 @@ operands (Seqn left right) said = two-operands said refl
 operands (Catch left right) said = two-operands said refl
 operands (Block left) said = one-operand said refl
 operands (Unblock left) said = one-operand said refl
-
--- ---- measuring
-
--- t is the measure at node j
-module _ {table : List ℕ} {j t : ℕ} where
-  measurable : (j ≡ t) × Measurable table j → {k : ℕ} → k < j
-      → codeLength (expressionAt table k) ≤ codeLength (expressionAt table j) → (k < t) × Measurable table k
-  measurable here below shorter = (omega arith, record { node = node-below (here .1 .node) below; short = omega arith })
-
-  module _ {left right added : ℕ} (here : ((j ≡ t) × Measurable table j) × Two table j left right added) where
-    pub left-measurable : (left < t) × Measurable table left
-    left-measurable = measurable (here .0) (here .1 .left-below) (omega arith)
-
-    pub right-measurable : (right < t) × Measurable table right
-    right-measurable = measurable (here .0) (here .1 .right-below) (omega arith)
-
-  module _ {left added : ℕ} (here : ((j ≡ t) × Measurable table j) × One table j left added) where
-    pub only-measurable : (left < t) × Measurable table left
-    only-measurable = measurable (here .0) (here .1 .left-below) (omega arith)

@@ -1,6 +1,6 @@
--- What the walks down an accepted table ask, and what emitting comes to.
+-- What the pass along an accepted table and the walk down it ask, and what emitting comes to.
 --
---   Measurable   a node of an accepted table whose code is not too long to count
+--   Measurable   the last node of an accepted table
 --   Placeable    there is room for an instruction at an address, and its target fits
 --   Placed       it stands there
 --   Emittable    a node of an accepted table whose code fits the buffer from an address on
@@ -12,16 +12,17 @@ use lib.ListN.{length}
 use lib.Seq.{sets}
 use mathlib.Core.List.{List}
 use mathlib.Core.Path.{_≡_}
+use Rattle.rules.specs.Bytes.{records}
 use Rattle.rules.specs.Code.{codeLength, compile, targetOf}
 use Rattle.rules.specs.CodeBytes.{instructionBytes, bytesOf}
 use Rattle.rules.specs.Limits.{recordBytes, instructionLimit}
 use Rattle.rules.specs.Recipe.{expressionAt}
 use Rattle.rules.specs.declared.Instruction.{Instruction}
-use Rattle.table.specs.Acceptance.{AcceptedNode}
+use Rattle.table.specs.Acceptance.{AcceptedTable, AcceptedNode}
 
 pub record Measurable (table : List ℕ) (j : ℕ) : Type 0 where
-  pub node : AcceptedNode table j
-  pub short : codeLength (expressionAt table j) ≤ instructionLimit
+  pub accepted : AcceptedTable table
+  pub last : j + 1 ≡ records table
 
 pub record Placeable (code : List ℕ) (at : ℕ) (instruction : Instruction) : Type 0 where
   pub room : recordBytes * at + 7 < length code

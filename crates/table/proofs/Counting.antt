@@ -111,7 +111,7 @@ nodes-ofNode f (Unblock left) = omega arith
 
 pub codeLength-ofNode : (f : ℕ → Expression) (node : Node)
     → codeLength (ofNode node f) ≡ column node + sumOver (λ k. codeLength (f k)) (operandsOf node)
-unfolding codeLength ofNode sumOver column
+unfolding codeLength ofNode sumOver
 codeLength-ofNode f (Val n) = refl
 codeLength-ofNode f Throw = refl
 codeLength-ofNode f (Add left right) = omega arith

@@ -10,7 +10,7 @@ use Rattle.rules.specs.Table.{nodeAt}
 use Rattle.rules.specs.declared.Node.{Node}
 use Rattle.rules.specs.declared.Node.the-variants.{Val, Throw, Add, Seqn, Catch, Block, Unblock}
 
-unfoldable pub column : Node → ℕ
+abbrev pub column : Node → ℕ
 column (Val n) = 1
 column Throw = 1
 column (Add left right) = 1

@@ -6,7 +6,7 @@ use Rattle.rules.specs.Checking.{checkAnswer}
 use Rattle.rules.specs.Table.{tableTests}
 use Rattle.rules.specs.declared.Checked.the-variants.{Accepted}
 use Rattle.table.proofs.Acceptance.{last-node}
-use Rattle.compiler.proofs.Compiling.{last-measurable, last-emittable, table-refused, buffer-refused, compiled}
+use Rattle.compiler.proofs.Compiling.{last-measurable, last-short, last-emittable, table-refused, buffer-refused, compiled}
 use Rattle.compiler.proofs.compile.Statement.{statement}
 use Rattle.compiler.proofs.compile.Tie as tie
 
@@ -19,7 +19,7 @@ compile-spec =
     tie.close (tie.spec
     (search needs) (search needs)
     (λ c. last-node _ (checked (c .before)) .0) (λ c κs. last-measurable _ (checked (c .before)))
-    (λ c. omega (arith, last-measurable _ (checked (c .before .before)) .short, c .measure .ensures))
+    (λ c. omega (arith, last-short _ (checked (c .before .before)), c .measure .ensures))
     (λ c. buffer-refused _ (checked (c .before .before .before)) _ (c .before .measure .ensures) (c .if1 .taken))
     (λ c. last-node _ (checked (c .before .before .before)) .0)
     (λ c κs. let fits = c .before in let size = fits .before in
