@@ -4,22 +4,12 @@
 #define _POSIX_C_SOURCE 200809L
 #include <salnegris.h>
 
+#include "expect.h"
+
 #include <pthread.h>
 #include <stdint.h>
-#include <stdio.h>
 #include <stdlib.h>
 #include <string.h>
-
-static int passed, failed;
-
-static void expect(const char *what, int holds) {
-    if (holds) {
-        passed++;
-    } else {
-        failed++;
-        printf("FAILED: %s\n", what);
-    }
-}
 
 /* ---- a painted call stack ---- */
 
@@ -109,6 +99,5 @@ int main(int count, char **words) {
     expect("compiling takes no more than the header allows", compiling[1] <= allowed);
     expect("and the header allows hardly more than it takes", compiling[1] >= allowed / 10 * 9);
     expect("each level takes what the header says", compiling[1] - compiling[0] == level * (depths[1] - depths[0]));
-    printf("%d passed, %d failed\n", passed, failed);
-    return failed != 0;
+    return tell();
 }

@@ -3,19 +3,9 @@
  */
 #include <salnegris.h>
 
-#include <stdio.h>
+#include "expect.h"
+
 #include <string.h>
-
-static int passed, failed;
-
-static void expect(const char *what, int holds) {
-    if (holds) {
-        passed++;
-    } else {
-        failed++;
-        printf("FAILED: %s\n", what);
-    }
-}
 
 /* ---- buffers, fresh before each call ---- */
 
@@ -141,6 +131,5 @@ int main(void) {
     compiling();
     before_a_run();
     in_a_run();
-    printf("%d passed, %d failed\n", passed, failed);
-    return failed != 0 || passed == 0;
+    return tell();
 }
