@@ -13,7 +13,7 @@
 
 /* ---- a painted call stack ---- */
 
-enum { STACK = 1 << 20, PAGE = 4096, PAINT = 0xa5 };
+enum { PAINTED = 1 << 20, PAGE = 4096, PAINT = 0xa5 };
 
 typedef struct {
     void (*call)(void);
@@ -33,19 +33,21 @@ static size_t taken(void (*call)(void)) {
     job j = {call, 0};
     pthread_attr_t attributes;
     pthread_t thread;
-    void *stack = NULL;
-    size_t left = 0;
-    if (posix_memalign(&stack, PAGE, STACK) != 0)
+    void *painted = NULL;
+    const unsigned char *lowest;
+    size_t bytes;
+    if (posix_memalign(&painted, PAGE, PAINTED) != 0)
         return 0;
-    memset(stack, PAINT, STACK);
-    if (pthread_attr_init(&attributes) != 0 || pthread_attr_setstack(&attributes, stack, STACK) != 0 ||
+    memset(painted, PAINT, PAINTED);
+    if (pthread_attr_init(&attributes) != 0 || pthread_attr_setstack(&attributes, painted, PAINTED) != 0 ||
         pthread_create(&thread, &attributes, begin, &j) != 0 || pthread_join(thread, NULL) != 0)
         return 0;
-    while (((unsigned char *)stack)[left] == PAINT)
-        left++;
-    left = j.top - ((uintptr_t)stack + left);
-    free(stack);
-    return left;
+    lowest = painted;
+    while (*lowest == PAINT)
+        lowest++;
+    bytes = j.top - (uintptr_t)lowest;
+    free(painted);
+    return bytes;
 }
 
 /* ---- recipes that are as deep as they have nodes: Blocks over a Val ---- */
@@ -92,7 +94,7 @@ int main(int count, char **words) {
         printf("call stack at depth %3zu, in bytes: measuring %zu, compiling %zu, running %zu\n", depths[i], measuring[i],
                compiling[i], running[i]);
     }
-    expect("measuring takes something", measuring[0] > 0 && running[0] > 0);
+    expect("a painted stack could be had", measuring[0] > 0 && running[0] > 0);
     expect("measuring takes the same whatever the table", measuring[1] == measuring[0]);
     expect("running takes the same whatever the code", running[1] == running[0]);
     expect("and less than 1 KiB", running[1] < 1024);

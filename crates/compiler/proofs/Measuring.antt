@@ -22,7 +22,7 @@ use Rattle.rules.specs.Table.{nodeAt}
 use Rattle.rules.specs.declared.Node.{Node}
 use Rattle.rules.specs.declared.Node.the-variants.{Val, Throw, Add, Seqn, Catch, Block, Unblock}
 use Rattle.table.specs.Column.{column, columnSum}
-use Rattle.table.proofs.Acceptance.{recipe-length}
+use Rattle.table.proofs.Acceptance.{record-inside, recipe-length}
 use Rattle.compiler.specs.Walking.{Measurable}
 
 pub column-short : (node : Node) → column node ≤ 2
@@ -47,7 +47,9 @@ module _ {table : List ℕ} {j : ℕ} where
 
   module _ {k total : ℕ} (so-far : Measured table j k total) where
     pub measured-inside : k ≤ j → recordBytes * k + 7 < length table
-    measured-inside more = omega (arith, so-far .measurable .last, so-far .measurable .accepted .size)
+    measured-inside more =
+        let accepted = so-far .measurable .accepted in
+        record-inside (record { accepted = accepted; within = omega (arith, so-far .measurable .last) })
 
     pub measured-next : k ≤ j → Measured table j (k + 1) (total + column (nodeAt table k))
     unfolding columnSum
