@@ -1,6 +1,8 @@
 // Carries out the script on standard input, a text of cases whose head explains its language, and writes a line of each case:
 // what the exported functions answer, and what they left in the buffers lent to them.
 
+#![tactic(auto)]
+
 mod buffer;
 mod command;
 mod compiling;

@@ -1,5 +1,7 @@
 // The checker of code: the tests 9 to 12 on lent bytes, in document 01's order.
 
+#![tactic(auto)]
+
 pub mod instruction;
 
 ghost use Rattle.std.specs.Prelude.{◌≡◌};

@@ -1,5 +1,7 @@
 // The compiler: from an accepted table to the bytes of its code (document 01, "The code").
 
+#![tactic(auto)]
+
 mod emit;
 mod measure;
 mod place;

@@ -1,5 +1,7 @@
 // The end of a recipe that no recall strikes, straight from its table (document 01, "What a recipe may end in").
 
+#![tactic(auto)]
+
 ghost use Rattle.std.specs.Prelude.{◌≡◌};
 ghost use Rattle.rules.specs.Evaluating.{evaluate_answer};
 ghost use Rattle.rules.specs.Evaluation.{quiet};

@@ -1,6 +1,8 @@
 // The machine: from the bytes of a code, a status and a schedule of recalls to an answer (document 01, "One step of the
 // machine" and "Refusal numbers").
 
+#![tactic(auto)]
+
 mod carry;
 mod ends;
 mod item;

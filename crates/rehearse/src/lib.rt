@@ -1,6 +1,8 @@
 // The rehearsal program (document 01): a status, a table and a schedule are read from standard input, "at most 8,192 bytes", and
 // one line is printed. `c/main.c` calls it: a program of the kit has no exit status, and a function has a value.
 
+#![tactic(auto)]
+
 mod line;
 mod put;
 mod reading;

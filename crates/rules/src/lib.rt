@@ -1,6 +1,8 @@
 // The types that code and definitions share, one of each, in the words of document 01.
 // What they mean is said in specs/, which also gives the document's number for each case.
 
+#![tactic(auto)]
+
 // "A status is 0, blocked, or 1, unblocked."
 #[derive(Drop)]
 pub enum Status {

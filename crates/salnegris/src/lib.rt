@@ -1,5 +1,7 @@
 // The C interface: what a worker links. `include/salnegris.h` says the same for a C programmer.
 
+#![tactic(auto)]
+
 mod fields;
 
 ghost use Rattle.std.specs.Prelude.{◌≡◌};

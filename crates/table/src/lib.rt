@@ -1,5 +1,7 @@
 // The checker of recipe tables: the tests 1 to 5 on lent bytes, in document 01's order.
 
+#![tactic(auto)]
+
 pub mod node;
 mod uses;
 
