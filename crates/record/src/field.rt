@@ -13,6 +13,7 @@ pub fn byte(bytes: &[u8], at: usize) -> usize
     bytes[at] as usize
 }
 
+#[tactic(auto, unfolding(rules::specs::Bytes::half_at))]
 pub fn half(bytes: &[u8], at: usize) -> usize
     requires { at + 1 < length bytes.now }
     ensures { (result ≡ half_at bytes.now at) × (result < 65536) }
@@ -20,6 +21,7 @@ pub fn half(bytes: &[u8], at: usize) -> usize
     byte(bytes, at) + 256 * byte(bytes, at + 1)
 }
 
+#[tactic(auto, unfolding(rules::specs::Bytes::word_at))]
 pub fn word(bytes: &[u8], at: usize) -> u32
     requires { at + 3 < length bytes.now }
     ensures { result ≡ word_at bytes.now at }

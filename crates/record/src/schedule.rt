@@ -7,6 +7,7 @@ ghost use Rattle.rules.specs.Schedule as Schedule;
 use rules::Status;
 
 // "If the status is unblocked and the schedule asks for a recall here", at the instruction reached as this number.
+#[tactic(auto, unfolding(rules::specs::Machine::cuts))]
 pub fn strikes(status: Status, schedule: &[u8], reached: usize) -> bool
     ensures { result ≡ cuts status (Schedule.asks schedule.now reached) }
 {

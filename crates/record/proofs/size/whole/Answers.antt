@@ -7,8 +7,7 @@ use lib.Dec.{eqb, ltb, leb}
 use mathlib.Core.Bool.{Bool, false, ◌&&◌, and-false}
 use mathlib.Core.Path.{◌≡◌}
 use Rattle.rules.specs.Bytes.{whole_records}
-use Rattle.record.proofs.size.whole.Statement.{statement}
-use Rattle.record.proofs.size.whole.Tie as tie
+use Rattle.record.proofs.size.whole.Goals as goal
 
 -- the test by the number of records, beside that by the size
 module _ (size most : ℕ) where
@@ -30,10 +29,14 @@ module _ (size most : ℕ) where
     | no whole ↦ rw (lt-ltb 0 size (omega arith), le-leb size (8 * most) (omega arith))
   ]
 
-pub whole-spec : {M : Type 1} → statement M
+pub returns-then-records-eq0 : goal.returns-then-records-eq0
 unfolding whole_records
-whole-spec =
-    tie.close (tie.spec
-    (λ c. none _ _ c.if1.true)
-    (λ c. many _ _ c.if2.true)
-    (λ c. some _ _ c.before.if1.false c.if2.false))
+returns-then-records-eq0 c = none _ _ c.if-records-eq0.true
+
+pub returns-then-most-records : goal.returns-then-most-records
+unfolding whole_records
+returns-then-most-records c = many _ _ c.if-most-records.true
+
+pub returns : goal.returns
+unfolding whole_records
+returns c = some _ _ c.if-records-eq0.false c.if-most-records.false
