@@ -4,14 +4,14 @@
 #![tactic(auto)]
 
 // "A status is 0, blocked, or 1, unblocked."
-#[derive(Drop)]
+#[derive(Clone, Copy)]
 pub enum Status {
     Blocked,
     Unblocked,
 }
 
 // The recipe table: a node, with the numbers of the nodes that it names.
-#[derive(Drop)]
+#[derive(Clone, Copy)]
 pub enum Node {
     Val(i32),
     Throw,
@@ -23,7 +23,7 @@ pub enum Node {
 }
 
 // The code: an instruction. A target is an address, counted in instructions from 0.
-#[derive(Drop)]
+#[derive(Clone, Copy)]
 pub enum Instruction {
     Push(i32),
     Throw,
@@ -36,7 +36,7 @@ pub enum Instruction {
 }
 
 // "The stack holds numbers, handler addresses and saved statuses."
-#[derive(Drop)]
+#[derive(Clone, Copy)]
 pub enum Item {
     Number(i32),
     Handler(usize),
@@ -44,14 +44,14 @@ pub enum Item {
 }
 
 // What a recipe may end in.
-#[derive(Drop)]
+#[derive(Clone, Copy)]
 pub enum End {
     Number(i32),
     Throw,
 }
 
 // The refusals 1 to 15, in the document's order.
-#[derive(Drop)]
+#[derive(Clone, Copy)]
 pub enum Reason {
     TableSize,
     Kind,
@@ -70,34 +70,34 @@ pub enum Reason {
     Steps,
 }
 
-#[derive(Drop)]
+#[derive(Clone, Copy)]
 pub struct Refusal {
     pub reason: Reason,
     pub place: usize,
 }
 
 // What checking answers: how many nodes a table has or instructions a code, or the refusal.
-#[derive(Drop)]
+#[derive(Clone, Copy)]
 pub enum Checked {
     Accepted(usize),
     Refused(Refusal),
 }
 
 // What compiling answers: the code length in instructions, or the refusal.
-#[derive(Drop)]
+#[derive(Clone, Copy)]
 pub enum Compiled {
     Length(usize),
     Refused(Refusal),
 }
 
 // What running comes to, and how far it got.
-#[derive(Drop)]
+#[derive(Clone, Copy)]
 pub enum Outcome {
     Ended(End),
     Refused(Refusal),
 }
 
-#[derive(Drop)]
+#[derive(Clone, Copy)]
 pub struct Answer {
     pub outcome: Outcome,
     pub steps: usize,

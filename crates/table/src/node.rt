@@ -7,7 +7,7 @@ ghost use Rattle.table.specs.Reading.{reading_at, operands_at, unused_zero, name
 use rules::{Node, Reason, Refusal};
 
 // The nodes that a node names: none, one or two.
-#[derive(Drop)]
+#[derive(Clone, Copy)]
 pub enum Operands {
     None,
     One(usize),
@@ -15,7 +15,7 @@ pub enum Operands {
 }
 
 // What reading a node with its tests answers: the nodes that it names, since the tests ask for no more of it, or the refusal.
-#[derive(Drop)]
+#[derive(Clone, Copy)]
 pub enum Reading {
     Sound(Operands),
     Refused(Refusal),
