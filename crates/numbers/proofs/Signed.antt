@@ -9,7 +9,8 @@
 --   residue_sum      the residue of a sum is the wrapped sum of the residues
 --
 -- Assumes nothing.
-use Rattle.std.proofs.Common.{◌≡◌, ℕ, zero, suc, ◌+◌, ◌-◌, ◌%◌, ◌^◌, ◌<◌, Bool, true, false, cond, ltb, ℤ, pos, negsuc, ◌+ℤ◌, ◌-ℤ◌, refl, ◌∙◌, arith, w32, SFits, to_z, of_z, ltb-true, le-ltb, lt-ltb}
+use Rattle.std.proofs.Common.{◌≡◌, ℕ, zero, suc, ◌+◌, ◌-◌, ◌%◌, ◌^◌, ◌<◌, Bool, true, false, cond, ltb, ℤ, pos, negsuc}
+use Rattle.std.proofs.Common.{◌+ℤ◌, ◌-ℤ◌, refl, ◌∙◌, arith, w32, SFits, to_z, of_z, ltb-true, le-ltb, lt-ltb}
 use native.Mathlib.Decide.{dec_lt}
 use lib.IntN.{sub_ℕ}
 use lib.Signed.{mag, lt_z}

@@ -15,7 +15,8 @@ overflow_mul-length c = omega (arith, last_short _ (sym c.check.ensures ∙ c.in
 
 pub returns-then-code-length : goal.returns-then-code-length
 returns-then-code-length c =
-    let both = buffer_refused _ (sym c.check.ensures ∙ c.in-Accepted.is) c.args.code.now c.measure-length.ensures c.if-code-length.true in
+    let checked = sym c.check.ensures ∙ c.in-Accepted.is in
+    let both = buffer_refused _ checked c.args.code.now c.measure-length.ensures c.if-code-length.true in
     record { answer = both.0; leaves = both.1 }
 
 pub overflow_sub-nodes-in-Accepted : goal.overflow_sub-nodes-in-Accepted

@@ -83,8 +83,10 @@ Says n a x (some row) =
 target_fits_lem : {n a t : ℕ} → a < t → t ≤ n → ltb a t && leb t n ≡ true
 target_fits_lem {n} {a} {t} above within = rw (lt-ltb a t above, le-leb t n within)
 
-writable_says : {n a : ℕ} {x : Instruction} → n ≤ instruction_limit → Writable n a x → Says n a x (opcode_at (instruction_bytes x) 0)
-unfolding word_at half_at word_bytes all_zero instruction_bytes instruction_record opcodes row_numbered opcode_at operand_fits target_fits
+writable_says : {n a : ℕ} {x : Instruction} → n ≤ instruction_limit → Writable n a x
+    → Says n a x (opcode_at (instruction_bytes x) 0)
+unfolding word_at half_at word_bytes all_zero instruction_bytes instruction_record opcodes row_numbered opcode_at operand_fits
+    target_fits
 writable_says short (push {k} lane) = rw (operand_whole 1 (residue k) (residue_small k)) (ap Push lane, refl, refl)
 writable_says short throw = (refl, refl, refl)
 writable_says short add = (refl, refl, refl)

@@ -112,7 +112,8 @@ module _ (a : ℕ) (s : State) where
   execute_effect (Push n) = push_effect number
   execute_effect Throw = carried thrown
   execute_effect Add =
-      with_number_lem (Effect Add a s) _ refused s.items _ λ m below e. with_number_lem (Effect Add a s) _ refused below _ λ n rest f.
+      with_number_lem (Effect Add a s) _ refused s.items _ λ m below e.
+      with_number_lem (Effect Add a s) _ refused below _ λ n rest f.
       carried (replaced number (e ∙ ap (λ items. Number m ∷ items) f))
   execute_effect Pop = with_number_lem (Effect Pop a s) _ refused s.items _ λ n rest e. carried (popped e)
   execute_effect (Mark t) = push_effect handler

@@ -134,7 +134,8 @@ module _ {code : List Instruction} {placing : Placing} {room : ℕ} (small : roo
           | struck int c ↦ throws (t' + 1 + 1) (r' + 1) (int (Seqn x y)) (omega arith) (omega arith)
               (path ▹ cut h c f₁ ▸ drop f₀ ▸ done)
           | calm c ↦ elim (lands hy i s (t' + 1) (r' + 1) (omega arith)) [
-            | throws t'' r'' g' p' q' path' ↦ throws t'' r'' (SEQN1 g g') (omega arith) (omega arith) (path ▹ go h c refl f₀ ▸ path')
+            | throws t'' r'' g' p' q' path' ↦
+                throws t'' r'' (SEQN1 g g') (omega arith) (omega arith) (path ▹ go h c refl f₀ ▸ path')
             | number m t'' r'' g' p' q' path' ↦ number m t'' r'' (SEQN1 g g') (omega arith) (omega arith)
                 (path ▹ go h c refl f₀ ▸ path')
           ]
