@@ -146,10 +146,11 @@ module _ {table : List ℕ} {j t : ℕ} {code : List ℕ} {at left right : ℕ} 
         pub catch_mark : Placeable code₂ at (Mark (middle + 1))
         catch_mark = spot here (emitted_length second ∙ emitted_length first) (omega arith) (omega arith)
 
-        module _ {code₃ : List ℕ} (mark : Placed code₂ at (Mark (middle + 1)) code₃) where
-          pub catch_unmark : Placeable code₃ middle (Unmark end)
-          catch_unmark = spot here (placed_length mark ∙ emitted_length second ∙ emitted_length first) (omega arith) (omega arith)
+        pub catch_unmark : {x : Instruction} {code₃ : List ℕ} → Placed code₂ at x code₃ → Placeable code₃ middle (Unmark end)
+        catch_unmark mark =
+            spot here (placed_length mark ∙ emitted_length second ∙ emitted_length first) (omega arith) (omega arith)
 
+        module _ {code₃ : List ℕ} (mark : Placed code₂ at (Mark (middle + 1)) code₃) where
           pub catch_emitted : {code₄ : List ℕ} → Placed code₃ middle (Unmark end) code₄ → Emitted table j code at end code₄
           unfolding of_node
           catch_emitted e = record {

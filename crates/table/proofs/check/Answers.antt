@@ -7,9 +7,6 @@ use Rattle.table.proofs.Checking.{size_refused, nodes_refused, nodes_passed}
 use Rattle.table.proofs.Tally.{none_counted, counted_tests}
 use Rattle.table.proofs.check.Goals as goal
 
-pub returns-then-not-whole : goal.returns-then-not-whole
-returns-then-not-whole c = sym (size_refused _ (sym c.whole.ensures ∙ c.if-not-whole.true))
-
 pub check_nodes-requires : goal.check_nodes-requires
 check_nodes-requires c =
     let size = whole_means _ _ (sym c.whole.ensures ∙ c.if-not-whole.false) in
@@ -19,6 +16,12 @@ pub check-requires : goal.check-requires
 check-requires c =
     let size = whole_means _ _ (sym c.whole.ensures ∙ c.if-not-whole.false) in
     (size.some, omega (arith, size.few))
+
+-- ---- the answer, by the first test that refuses: the size, then the nodes upward,
+-- then the uses
+
+pub returns-then-not-whole : goal.returns-then-not-whole
+returns-then-not-whole c = sym (size_refused _ (sym c.whole.ensures ∙ c.if-not-whole.true))
 
 pub returns-in-Accepted : goal.returns-in-Accepted
 returns-in-Accepted c =

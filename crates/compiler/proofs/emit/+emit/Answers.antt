@@ -107,12 +107,14 @@ emit-end-requires-in-Catch t c =
 pub place-requires-in-Catch : goal.place-requires-in-Catch
 place-requires-in-Catch t c =
     let here = reached (c.decreases, c.requires) c.at.ensures c.in-Catch.is in
-    catch_mark here c.emit-middle-in-Catch.ensures c.emit-end-in-Catch.ensures
+    let spot = catch_mark here c.emit-middle-in-Catch.ensures c.emit-end-in-Catch.ensures in
+    record { room = spot.room; target = omega arith }
 
 pub place-requires-in-Catch-2 : goal.place-requires-in-Catch-2
 place-requires-in-Catch-2 t c =
     let here = reached (c.decreases, c.requires) c.at.ensures c.in-Catch.is in
-    catch_unmark here c.emit-middle-in-Catch.ensures c.emit-end-in-Catch.ensures c.place-in-Catch.ensures
+    let spot = catch_unmark here c.emit-middle-in-Catch.ensures c.emit-end-in-Catch.ensures c.place-in-Catch.ensures in
+    record { room = spot.room; target = omega arith }
 
 pub returns-in-Catch : goal.returns-in-Catch
 returns-in-Catch t c =

@@ -11,16 +11,12 @@ use Rattle.table.specs.declared.node.Operands.{Operands}
 use Rattle.table.specs.declared.node.Reading.TheVariants.{Refused}
 use Rattle.table.proofs.Reading.{operands_named, reads_unknown, tests}
 use Rattle.table.proofs.node.read.Goals as goal
-use Rattle.table.proofs.node.read.Goals.{then-kind-eq0-via-then-kind-eq0, then-kind-eq0-via-else-kind-eq0+then-kind-gt7}
 
 pub returns-then-kind-eq0 : goal.returns-then-kind-eq0
 unfolding kinds
 returns-then-kind-eq0 c =
     let kind : ℕ = c.byte-kind.result in
-    let outside : 1 ≤ kind → kind ≤ 7 → ⊥ = λ l h. elim c.then-kind-eq0.branch [
-      | then-kind-eq0-via-then-kind-eq0 w ↦ omega arith
-      | then-kind-eq0-via-else-kind-eq0+then-kind-gt7 w ↦ omega arith
-    ] in
+    let outside : 1 ≤ kind → kind ≤ 7 → ⊥ = λ l h. omega arith in
     c.refused.ensures ∙ sym (reads_unknown _ _ c.byte-kind.ensures.0 (row_unknown kinds kind outside))
 
 -- ---- the tests 3 and 4, of a known kind
@@ -40,20 +36,20 @@ tested table j same answered = ap (all_below j) (sym (operands_named (node_at ta
 
 pub returns-then-unused-ne0 : goal.returns-then-unused-ne0
 returns-then-unused-ne0 c =
-    let turn = in_turn _ _ c.byte-kind.ensures.0 c.if-kind-eq0.false c.if-kind-gt7.false in
+    let turn = in_turn _ _ c.byte-kind.ensures.0 (λ e. omega arith) (omega arith) in
     let wrong = sym c.unused.ensures ∙ ne_eqb _ _ c.if-unused-ne0.true in
     c.refused-then-unused-ne0.ensures ∙ sym (first_refuses Refused _ turn wrong)
 
 pub returns-then-below : goal.returns-then-below
 returns-then-below c =
-    let turn = in_turn _ _ c.byte-kind.ensures.0 c.if-kind-eq0.false c.if-kind-gt7.false in
+    let turn = in_turn _ _ c.byte-kind.ensures.0 (λ e. omega arith) (omega arith) in
     let clean = sym c.unused.ensures ∙ eq-eqb _ _ c.if-unused-ne0.false in
     let right = tested _ _ c.operands_at-operands.ensures c.below.ensures ∙ c.if-below.true in
     rw c.operands_at-operands.ensures (sym (both_pass Refused _ turn clean right))
 
 pub returns-else-below : goal.returns-else-below
 returns-else-below c =
-    let turn = in_turn _ _ c.byte-kind.ensures.0 c.if-kind-eq0.false c.if-kind-gt7.false in
+    let turn = in_turn _ _ c.byte-kind.ensures.0 (λ e. omega arith) (omega arith) in
     let clean = sym c.unused.ensures ∙ eq-eqb _ _ c.if-unused-ne0.false in
     let wrong = tested _ _ c.operands_at-operands.ensures c.below.ensures ∙ c.if-below.false in
     c.refused-else-below.ensures ∙ sym (second_refuses Refused _ turn clean wrong)
