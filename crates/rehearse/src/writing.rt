@@ -1,0 +1,17 @@
+// Bytes written to standard output.
+
+// Whether all of them are written. At the first write that fails or takes nothing it ends, and some may have been written then.
+// A write that a signal interrupts counts as failed, so std's `write_all`, which repeats it, does not serve.
+pub(crate) fn standard_output(rt: &impl Print, bytes: &[u8]) -> bool {
+    let mut done: usize = 0;
+    while done < bytes.len() {
+        let Ok(more) = rt.write_some(&bytes[done..]) else {
+            return false;
+        };
+        if more == 0 {
+            return false;
+        }
+        done += more;
+    }
+    true
+}
