@@ -20,7 +20,9 @@ pub fn salnegris_rehearse(rt: &(impl Input + Print + Eprint), arguments: bool) -
     ensures { ExitsWith arguments result }
 {
     if arguments {
-        let _ = rt.eprintln("rehearse: no arguments are taken; the recipe is read from standard input");
+        let _ = rt.eprintln(
+            "rehearse: no arguments are taken; the recipe is read from standard input",
+        );
         return 2;
     }
     status(rehearse(rt))
