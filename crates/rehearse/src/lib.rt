@@ -5,10 +5,10 @@
 #![tactic(auto)]
 
 mod line;
+mod printing;
 mod put;
 mod reading;
 mod rehearsal;
-mod writing;
 
 ghost use Rattle.std.specs.Prelude.{◌≡◌};
 ghost use Rattle.rehearse.specs.Exit.{ExitsWith, line_status};
@@ -37,7 +37,7 @@ fn rehearse(rt: &(impl Input + Print + Eprint)) -> bool {
     };
     let mut line = [0u8; 64];
     let length = rehearsal::of_input(&input[..read], &mut line);
-    let written = writing::standard_output(rt, &line[..length]);
+    let written = printing::standard_output(rt, &line[..length]);
     if !written {
         let _ = rt.eprintln("rehearse: standard output cannot be written");
     }

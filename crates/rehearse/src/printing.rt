@@ -1,4 +1,4 @@
-// Bytes written to standard output.
+// Bytes printed on standard output.
 
 // Whether all of them are written. At the first write that fails or takes nothing it ends, and some may have been written then.
 // A write that a signal interrupts counts as failed, so std's `write_all`, which repeats it, does not serve.
