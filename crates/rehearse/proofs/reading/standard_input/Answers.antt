@@ -1,5 +1,5 @@
 -- `reading::standard_input` meets its contract: some bytes more are at least one, and no more than were left. Assumes nothing.
-use Rattle.std.proofs.Common.{arith, rules, ◌+◌, ◌≤◌, ◌<◌, length}
+use Rattle.std.proofs.Common.{rules, ◌+◌, ◌≤◌, ◌<◌, length}
 use Rattle.rehearse.proofs.Turns.{more_fits}
 use Rattle.rehearse.proofs.reading.standard_input.Given.{Over}
 use Rattle.rehearse.proofs.reading.standard_input.Goals as goal
