@@ -1,6 +1,6 @@
 // The rehearsal program (document 01): a status, a table and a schedule are read from standard input, "at most 8,192 bytes", and
-// one line is printed. The crate rehearse_main calls it, as the program that it is: it lends the runtime, through which all is
-// read and written, and hands on the exit status.
+// one line is printed. Its `main` is in the crate rehearse_main, which lends the runtime, through which all is read and written,
+// and ends with the value as its exit status.
 
 #![tactic(auto)]
 

@@ -1,7 +1,7 @@
 // Bytes printed on standard output.
 
-// Whether all of them are written. At the first write that fails or takes nothing it ends, and some may have been written then.
-// A write that a signal interrupts counts as failed, so std's `write_all`, which repeats it, does not serve.
+// Whether all of them are written. The first write that fails or takes nothing is the last, and some may have been written then.
+// One that a signal interrupts counts as failed, so std's `write_all`, which repeats it, does not serve.
 pub(crate) fn standard_output(rt: &impl Print, bytes: &[u8]) -> bool {
     let mut done: usize = 0;
     while done < bytes.len() {

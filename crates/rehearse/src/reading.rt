@@ -20,7 +20,7 @@ enum Turn {
     More(usize),
 }
 
-// The input is what the runtime gives as its reader: each of its reads is one call of the system's.
+// The runtime's reader makes one call of `read` each time and repeats none, so one that a signal interrupts counts as failed.
 pub(crate) fn standard_input(input: &mut impl Read, bytes: &mut [u8]) -> Reading
     ensures { Fits result bytes.new }
 {

@@ -1,4 +1,4 @@
-// The rehearsal program's `main`: it tells the library whether there are arguments, and ends with the exit status that the library
+// The rehearsal program's `main`: it tells the library whether there are arguments, and ends with the exit status that this
 // answers.
 
 #![tactic(auto)]
