@@ -1,6 +1,7 @@
 // Lent buffers, before a call and after it.
 
 use super::show;
+use std::io;
 
 // Each byte of a buffer before the call, so that a byte that was written shows.
 pub(crate) const FRESH: u8 = 0xA5;
@@ -23,13 +24,13 @@ pub(crate) fn all(bytes: &[u8], value: u8) -> bool {
 }
 
 // The bytes after those that a call may write.
-pub(crate) fn show_later(bytes: &[u8]) {
+pub(crate) fn show_later(rt: &impl Print, bytes: &[u8]) -> io::Result<()> {
     if untouched(bytes) {
-        show::text(b", ");
-        show::count(bytes.len() as u64);
-        show::text(b" bytes after it untouched");
+        show::text(rt, b", ")?;
+        show::count(rt, bytes.len() as u64)?;
+        show::text(rt, b" bytes after it untouched")
     } else {
-        show::text(b", bytes after it TOUCHED");
+        show::text(rt, b", bytes after it TOUCHED")
     }
 }
 

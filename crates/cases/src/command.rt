@@ -1,7 +1,5 @@
 // Commands by the word that a line begins with.
 
-use check::same;
-
 #[derive(Drop)]
 pub(crate) enum Command {
     Comment,
@@ -17,34 +15,22 @@ pub(crate) enum Command {
 
 // There is no word before the space that bytes begin with.
 pub(crate) fn command_of(word: &[u8]) -> Command {
-    if word.len() == 0 {
-        return Command::Bytes;
+    match word {
+        b"" => Command::Bytes,
+        b"#" => Command::Comment,
+        b"case" => Command::Case,
+        b"again" => Command::Again,
+        b"recalls" => Command::Recalls,
+        action => action_of(action),
     }
-    if same(word, b"#") {
-        return Command::Comment;
-    }
-    if same(word, b"case") {
-        return Command::Case;
-    }
-    if same(word, b"again") {
-        return Command::Again;
-    }
-    if same(word, b"recalls") {
-        return Command::Recalls;
-    }
-    action_of(word)
 }
 
 // What is done with a case.
 fn action_of(word: &[u8]) -> Command {
-    if same(word, b"compile") {
-        return Command::Compile;
+    match word {
+        b"compile" => Command::Compile,
+        b"code" => Command::Code,
+        b"run" => Command::Run,
+        _ => Command::Unknown,
     }
-    if same(word, b"code") {
-        return Command::Code;
-    }
-    if same(word, b"run") {
-        return Command::Run;
-    }
-    Command::Unknown
 }

@@ -2,13 +2,11 @@
 // then.
 
 use super::reading;
-use super::reading::{Meaning, after, first};
-use bytes::scan::find;
-use check::same;
+use super::reading::{Meaning, after, find, first};
 
 // The words about repeating begin with `t`, which no byte has.
 pub(crate) fn fill(words: &[u8], bytes: &mut [u8], used: usize) -> Meaning {
-    let end = find(words, 0, words.len(), b't');
+    let end = find(words, b't');
     let Meaning::Is(times) = times_of(&words[end..]) else {
         return Meaning::None;
     };
@@ -19,7 +17,7 @@ fn times_of(words: &[u8]) -> Meaning {
     if words.len() == 0 {
         return Meaning::Is(1);
     }
-    if !same(first(words), b"times") {
+    if first(words) != b"times".as_slice() {
         return Meaning::None;
     }
     reading::number(after(words))
@@ -61,10 +59,10 @@ fn put(word: &[u8], bytes: &mut [u8], used: usize) -> Meaning {
         return Meaning::Is(used);
     }
     let record = used / 8;
-    if 0 < record && same(word, b"-1") {
+    if 0 < record && word == b"-1".as_slice() {
         return put_number(record - 1, bytes, used);
     }
-    if same(word, b"+1") {
+    if word == b"+1".as_slice() {
         return put_number(record + 1, bytes, used);
     }
     let Meaning::Is(byte) = reading::byte(word) else {

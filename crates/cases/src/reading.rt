@@ -1,8 +1,6 @@
 // Words of a line, and the numbers that they spell.
 
-ghost use Rattle.std.specs.Prelude.{◌≤◌};
-
-use bytes::scan::find;
+ghost use Rattle.std.specs.Prelude.{ℕ, ◌≡◌, ◌≢◌, ◌<◌, ◌≤◌, length, slice_index};
 
 // What a text says, or that it says nothing of the kind.
 #[derive(Drop)]
@@ -11,15 +9,29 @@ pub(crate) enum Meaning {
     None,
 }
 
+// The place of the first such byte, or the length of a text that has none.
+pub(crate) fn find(text: &[u8], byte: u8) -> usize
+    ensures within { result ≤ length text.now }
+    ensures before { (k : ℕ) → k < result → slice_index text.now k ≢ byte }
+    ensures found { result < length text.now → slice_index text.now result ≡ byte }
+{
+    for (i, b) in text.iter().enumerate() {
+        if *b == byte {
+            return i;
+        }
+    }
+    text.len()
+}
+
 // The text before the first space; nothing if it begins with one.
 pub(crate) fn first(line: &[u8]) -> &[u8] {
-    let end = find(line, 0, line.len(), b' ');
+    let end = find(line, b' ');
     &line[0..end]
 }
 
 // The text after the first space.
 pub(crate) fn after(line: &[u8]) -> &[u8] {
-    let end = find(line, 0, line.len(), b' ');
+    let end = find(line, b' ');
     if end < line.len() {
         &line[end + 1..]
     } else {

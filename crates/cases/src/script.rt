@@ -5,12 +5,12 @@ ghost use Rattle.std.specs.Prelude.{◌≤◌, length};
 use super::buffer::front;
 use super::command::{Command, command_of};
 use super::filling::fill;
-use super::reading::{Meaning, after, first};
+use super::reading::{Meaning, after, find, first};
 use super::{compiling, running, show};
-use bytes::scan::find;
+use std::io;
 
 // The case that the script is at: where the line that names it begins, how many bytes it has, and how many its schedule has.
-#[derive(Drop)]
+#[derive(Clone, Copy)]
 struct Case {
     line: usize,
     bytes: usize,
@@ -57,7 +57,12 @@ impl Case {
 }
 
 // Up to the first line that is not understood. The lent bytes are for the bytes of a case and for its schedule.
-pub(crate) fn carry_out(text: &[u8], bytes: &mut [u8], recalls: &mut [u8]) {
+pub(crate) fn carry_out(
+    rt: &impl Print,
+    text: &[u8],
+    bytes: &mut [u8],
+    recalls: &mut [u8],
+) -> io::Result<()> {
     let mut case = Case {
         line: 0,
         bytes: 0,
@@ -66,21 +71,28 @@ pub(crate) fn carry_out(text: &[u8], bytes: &mut [u8], recalls: &mut [u8]) {
     let mut at: usize = 0;
     let mut number: u64 = 1;
     while at < text.len() {
-        let Step::Next(next) = obey(text, at, case, bytes, recalls) else {
-            not_understood(number);
-            return;
+        let Step::Next(next) = obey(rt, text, at, case, bytes, recalls)? else {
+            return not_understood(rt, number);
         };
         case = next;
         at = line_end(text, at) + 1;
         number += 1;
     }
+    Ok(())
 }
 
 // The line that begins at `at`.
-fn obey(text: &[u8], at: usize, case: Case, bytes: &mut [u8], recalls: &mut [u8]) -> Step {
+fn obey(
+    rt: &impl Print,
+    text: &[u8],
+    at: usize,
+    case: Case,
+    bytes: &mut [u8],
+    recalls: &mut [u8],
+) -> io::Result<Step> {
     let line = line_at(text, at);
     let words = after(line);
-    match command_of(first(line)) {
+    let step = match command_of(first(line)) {
         Command::Comment => Step::Next(case),
         Command::Bytes => case.with_bytes(fill(words, bytes, case.bytes)),
         Command::Case => Step::Next(Case {
@@ -97,24 +109,32 @@ fn obey(text: &[u8], at: usize, case: Case, bytes: &mut [u8], recalls: &mut [u8]
         command => {
             let name = after(line_at(text, case.line));
             let own = front(bytes, case.bytes);
-            case.kept(act(command, words, name, own, front(recalls, case.recalls)))
+            case.kept(act(rt, command, words, name, own, front(recalls, case.recalls))?)
         }
-    }
+    };
+    Ok(step)
 }
 
-fn act(command: Command, words: &[u8], name: &[u8], bytes: &[u8], recalls: &[u8]) -> bool {
+fn act(
+    rt: &impl Print,
+    command: Command,
+    words: &[u8],
+    name: &[u8],
+    bytes: &[u8],
+    recalls: &[u8],
+) -> io::Result<bool> {
     match command {
-        Command::Compile => compiling::compile(words, name, bytes),
-        Command::Code => compiling::code(words, bytes),
-        Command::Run => running::run(words, name, bytes, recalls),
-        _ => false,
+        Command::Compile => compiling::compile(rt, words, name, bytes),
+        Command::Code => compiling::code(rt, words, bytes),
+        Command::Run => running::run(rt, words, name, bytes, recalls),
+        _ => Ok(false),
     }
 }
 
-fn not_understood(number: u64) {
-    show::text(b"line ");
-    show::count(number);
-    show::text(b": not understood\n");
+fn not_understood(rt: &impl Print, number: u64) -> io::Result<()> {
+    show::text(rt, b"line ")?;
+    show::count(rt, number)?;
+    show::text(rt, b": not understood\n")
 }
 
 // From `at` to the end of the line.
@@ -131,5 +151,5 @@ fn line_end(text: &[u8], at: usize) -> usize
     requires { at ≤ length text.now }
     ensures { (at ≤ result) × (result ≤ length text.now) }
 {
-    find(text, at, text.len(), b'\n')
+    at + find(&text[at..], b'\n')
 }

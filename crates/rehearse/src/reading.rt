@@ -3,6 +3,9 @@
 ghost use Rattle.std.specs.Prelude.{length, ◌≡◌};
 ghost use Rattle.rehearse.specs.Reading.{Fits, turn_of};
 
+use std::io;
+use std::io::Read;
+
 #[derive(Drop)]
 pub(crate) enum Reading {
     Whole(usize),
@@ -17,12 +20,13 @@ enum Turn {
     More(usize),
 }
 
-pub(crate) fn standard_input(bytes: &mut [u8]) -> Reading
+// The runtime's reader makes one call of `read` each time and repeats none, so one that a signal interrupts counts as failed.
+pub(crate) fn standard_input(input: &mut impl Read, bytes: &mut [u8]) -> Reading
     ensures { Fits result bytes.new }
 {
     let mut done: usize = 0;
     while done < bytes.len() {
-        let got = libc::read(libc::STDIN_FILENO, &mut bytes[done..]);
+        let got = input.read(&mut bytes[done..]);
         match came_to(got, &bytes[done..]) {
             Turn::Failed => return Reading::Failed,
             Turn::End => return Reading::Whole(done),
@@ -33,14 +37,14 @@ pub(crate) fn standard_input(bytes: &mut [u8]) -> Reading
 }
 
 // A read that fails is no end of the input.
-fn came_to(got: isize, rest: &[u8]) -> Turn
+fn came_to(got: io::Result<usize>, rest: &[u8]) -> Turn
     ensures { result ≡ turn_of got (length rest.now) }
 {
-    if got < 0 {
+    let Ok(count) = got else {
         return Turn::Failed;
-    }
-    if 0 < got {
-        return Turn::More(io::count(got, rest));
+    };
+    if 0 < count {
+        return Turn::More(count.min(rest.len()));
     }
     Turn::End
 }
