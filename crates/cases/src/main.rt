@@ -7,20 +7,20 @@ mod buffer;
 mod command;
 mod compiling;
 mod filling;
+mod input;
 mod reading;
 mod running;
 mod script;
 mod show;
 
 use std::io;
-use std::io::Read;
 
 // The most that a case has is an instruction more than the longest code, and 1,600 recalls. A script longer than 65,536 bytes
 // would lose its last cases, and what is written would lack them.
 fn main(rt: HostRuntime) -> io::Result<()> {
-    let mut text = Vec::new(rt.alloc());
-    rt.reader().take(65536).read_to_end(&mut text)?;
+    let mut text = [0; 65536];
+    let read = input::fill(&mut rt.reader(), &mut text)?;
     let mut bytes = [0; 8192];
     let mut recalls = [0; 200];
-    script::carry_out(&rt, &text, &mut bytes, &mut recalls)
+    script::carry_out(&rt, &text[..read], &mut bytes, &mut recalls)
 }
