@@ -1,5 +1,4 @@
 -- `machine::state::Machine::unwind` meets its contract: by what the top item is. Assumes nothing.
-use mathlib.Core.Path.{sym, ◌∙◌}
 use Rattle.machine.proofs.Removing.{number_dropped, handler_entered, status_restored}
 use Rattle.machine.proofs.state.Machine.unwind.Goals as goal
 
