@@ -15,7 +15,8 @@ use Rattle.code.specs.declared.instruction.Reading.TheVariants.{Refused}
 use Rattle.code.proofs.Reading.{clean, padded, reads_unknown, tests}
 use Rattle.code.proofs.instruction.read.Goals as goal
 use Rattle.code.proofs.instruction.read.Goals.{After-word-operand, Else-not-operand_fits}
-use Rattle.code.proofs.instruction.read.Goals.{then-padding-ne0-via-then-padding-ne0, then-padding-ne0-via-else-padding-ne0+then-not-operand_fits}
+use Rattle.code.proofs.instruction.read.Goals.{then-padding-ne0-via-then-padding-ne0}
+use Rattle.code.proofs.instruction.read.Goals.{then-padding-ne0-via-else-padding-ne0+then-not-operand_fits}
 
 pub returns-then-opcode-eq0 : goal.returns-then-opcode-eq0
 unfolding opcodes
@@ -30,7 +31,8 @@ module _ (c : After-word-operand) where
   known = row_known opcodes _ (omega arith) (omega arith)
 
   in_turn : TwoTests (instruction_test c.args.code.now c.args.a)
-      (all_zero c.args.code.now (record_bytes * c.args.a) (1 ∷ 2 ∷ 3 ∷ []) && operand_fits_at c.byte-opcode.result c.word-operand.result)
+      (all_zero c.args.code.now (record_bytes * c.args.a) (1 ∷ 2 ∷ 3 ∷ [])
+      && operand_fits_at c.byte-opcode.result c.word-operand.result)
       (record { reason = Field; place = c.args.a })
       (target_fits_at c.byte-opcode.result c.word-operand.result c.args.a c.args.length)
       (record { reason = Target; place = c.args.a })
@@ -45,7 +47,8 @@ returns-then-padding-ne0 c =
       | then-padding-ne0-via-else-padding-ne0+then-not-operand_fits w ↦
           rw (sym w.operand_fits.ensures ∙ w.if-not-operand_fits.true, and-false)
     ] in
-    c.refused-then-padding-ne0.ensures ∙ sym (first_refuses Refused _ (in_turn (goal.at.returns-then-padding-ne0 c).After-word-operand) wrong)
+    c.refused-then-padding-ne0.ensures
+    ∙ sym (first_refuses Refused _ (in_turn (goal.at.returns-then-padding-ne0 c).After-word-operand) wrong)
 
 -- both parts of test 11 have passed
 right : (c : Else-not-operand_fits)
@@ -53,7 +56,10 @@ right : (c : Else-not-operand_fits)
     && operand_fits_at c.byte-opcode.result c.word-operand.result
     ≡ true
 right c =
-    rw (clean _ _ c.byte.ensures.0 c.half.ensures.0 c.if-padding-ne0.false, sym c.operand_fits.ensures ∙ c.if-not-operand_fits.false)
+    rw (
+      clean _ _ c.byte.ensures.0 c.half.ensures.0 c.if-padding-ne0.false,
+      sym c.operand_fits.ensures ∙ c.if-not-operand_fits.false,
+    )
 
 pub returns-then-target_fits : goal.returns-then-target_fits
 returns-then-target_fits c =
