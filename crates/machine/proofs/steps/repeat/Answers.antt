@@ -63,6 +63,7 @@ loop-machine-preserved c =
     }
 
 -- ---- the ends
+-- What a refused step leaves on the stack does not matter, so long as nothing has moved past the stack's bytes.
 
 pub returns-then-length-machine : goal.returns-then-length-machine
 returns-then-length-machine c =
