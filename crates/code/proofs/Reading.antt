@@ -4,6 +4,7 @@
 --   tests           the tests of an instruction whose opcode is known, one after the other
 --   clean, padded   bytes 1 to 3 are zero, or not
 --   told            what an answer says of the tests
+--   coded           the instruction of a record, by the opcode and the operand that were read
 --
 -- Assumes nothing.
 use Prim.Native.Nat.{ℕ, ◌+◌, ◌*◌}
@@ -21,6 +22,7 @@ use Rattle.rules.specs.declared.Refusal.{Refusal}
 use Rattle.rules.proofs.Bytes.Records.{zero_padding}
 use Rattle.rules.proofs.Checking.{answer_refused, answer_told, TwoTests, row_passes_lem}
 use Rattle.rules.proofs.Lists.{RowKnown}
+use Rattle.code.proofs.Opcodes.{instruction_of_opcode}
 use Rattle.code.specs.Reading.{reading_at, operand_fits_at, target_fits_at}
 use Rattle.code.specs.declared.instruction.Reading.{Reading}
 use Rattle.code.specs.declared.instruction.Reading.TheVariants.{Sound, Refused}
@@ -52,6 +54,11 @@ module _ (code : List ℕ) (a : ℕ) where
 
     pub reads_unknown : row_numbered opcodes opcode ≡ none → reading_at code a ≡ Refused (record { reason = Opcode; place = a })
     reads_unknown missing = answer_refused Refused (Sound (instruction_at code a)) (no_opcode (opcode_at_lem missing))
+
+    pub coded : {word k : ℕ} {row : OpcodeRow} → word ≡ word_at code (record_bytes * a + 4) → opcode ≡ k
+        → row_numbered opcodes k ≡ some row → row.instruction word ≡ instruction_at code a
+    coded operand is found =
+        rw operand (sym (instruction_of_opcode code a (opcode_at_lem (rw (← is) at found))))
 
     module _ {word n : ℕ} (known : RowKnown opcodes opcode) (operand : word ≡ word_at code (record_bytes * a + 4))
         (size : n ≡ records code) where

@@ -20,7 +20,7 @@ use Rattle.machine.specs.Items.{item_at, items_of}
 use Rattle.machine.specs.States.{state_of}
 use Rattle.machine.specs.declared.state.Machine.{Machine}
 use Rattle.machine.proofs.Stacked.{length_items_of}
-use Rattle.machine.proofs.Tags.{TaggedOneOf, not_number}
+use Rattle.machine.proofs.Others.{NoNumber, not_number}
 
 not_one_item : {A : Type 0} (items : List Item) (otherwise : A) (f : ℤ → A) → (length items ≡ 1 → ⊥)
     → with_number items otherwise (λ n rest. with_nothing rest otherwise (f n)) ≡ otherwise
@@ -37,10 +37,10 @@ module _ (stack : List ℕ) (m : Machine) where
   unfolding at_length items_of with_number with_nothing
   one_number one e = rw (one, ← e)
 
-  pub one_other : m.height ≡ 1 → {x : Item} → x ≡ item_at stack 0 → TaggedOneOf 1 2 x
+  pub one_other : m.height ≡ 1 → {x : Item} → x ≡ item_at stack 0 → NoNumber x
       → Over (Refused (no_rule m.address)) ≡ at_length (state_of stack m) m.address
   unfolding at_length items_of
-  one_other one e tag = rw (one, ← e) (sym (not_number _ _ _ _ tag))
+  one_other one e other = rw (one, ← e) (sym (not_number _ _ _ _ other))
 
   pub not_one : (m.height ≡ 1 → ⊥) → Over (Refused (no_rule m.address)) ≡ at_length (state_of stack m) m.address
   unfolding at_length

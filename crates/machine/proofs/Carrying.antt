@@ -29,7 +29,7 @@ use Rattle.machine.specs.States.{state_of, step_of, onward_of, Does, Carries, Pu
 use Rattle.machine.specs.declared.state.Machine.{Machine}
 use Rattle.machine.specs.declared.step.Step.TheVariants.{Next, Full, NoRule}
 use Rattle.machine.proofs.Stacked.{length_items_of, items_none, items_top, items_two}
-use Rattle.machine.proofs.Tags.{TaggedOneOf, not_number, not_handler, not_saved}
+use Rattle.machine.proofs.Others.{NoNumber, NoHandler, NoSaved, not_number, not_handler, not_saved}
 
 -- ---- the items that are not there
 
@@ -60,9 +60,9 @@ module _ (stack : List ℕ) (m : Machine) where
       few_items (items_of stack m.height) otherwise f none (omega (arith, h, length_items_of stack m.height))
 
   other_top : {A : Type 0} (otherwise : A) (f : ℤ → List Item → A) → 1 ≤ m.height → {x : Item} → Reads x (m.height - 1)
-      → TaggedOneOf 1 2 x
+      → NoNumber x
       → with_number (items_of stack m.height) otherwise f ≡ otherwise
-  other_top otherwise f h e tag = rw (items_top stack m.height h, ← e) (not_number _ otherwise f _ tag)
+  other_top otherwise f h e other = rw (items_top stack m.height h, ← e) (not_number _ otherwise f _ other)
 
   -- ---- one item more
 
@@ -89,9 +89,9 @@ module _ (stack : List ℕ) (m : Machine) where
   unfolding execute with_number
   pop_none e = refused (rw (items_none stack m.height e, with_number))
 
-  pub pop_other : 1 ≤ m.height → {x : Item} → Reads x (m.height - 1) → TaggedOneOf 1 2 x → Refuses Pop
+  pub pop_other : 1 ≤ m.height → {x : Item} → Reads x (m.height - 1) → NoNumber x → Refuses Pop
   unfolding execute
-  pop_other h e tag = refused (other_top _ _ h e tag)
+  pop_other h e other = refused (other_top _ _ h e other)
 
   pub popped : 1 ≤ m.height → {n : ℤ} → Reads (Number n) (m.height - 1)
       → Carries Pop stack m (Next (onward_of m false (m.address + 1) m.status (m.height - 1))) stack
@@ -118,36 +118,36 @@ module _ (stack : List ℕ) (m : Machine) where
   reset_few h = refused (few _ _ (λ n. refl) h)
 
   module _ (h : 2 ≤ m.height) where
-    module _ {x : Item} (e : Reads x (m.height - 1)) (tag : TaggedOneOf 1 2 x) where
+    module _ {x : Item} (e : Reads x (m.height - 1)) (other : NoNumber x) where
       pub add_top : Refuses Add
       unfolding execute
-      add_top = refused (other_top _ _ (omega arith) e tag)
+      add_top = refused (other_top _ _ (omega arith) e other)
 
       pub unmark_top : (target : ℕ) → Refuses (Unmark target)
       unfolding execute
-      unmark_top target = refused (other_top _ _ (omega arith) e tag)
+      unmark_top target = refused (other_top _ _ (omega arith) e other)
 
       pub reset_top : Refuses Reset
       unfolding execute
-      reset_top = refused (other_top _ _ (omega arith) e tag)
+      reset_top = refused (other_top _ _ (omega arith) e other)
 
     module _ {n : ℤ} (e : Reads (Number n) (m.height - 1)) where
       module _ {x : Item} (f : Reads x (m.height - 2)) where
-        pub add_below : TaggedOneOf 1 2 x → Refuses Add
+        pub add_below : NoNumber x → Refuses Add
         unfolding execute with_number
-        add_below tag =
+        add_below other =
             let below = items_of stack (m.height - 2) in
             let add : ℤ → List Item → rules.Step =
             λ k rest. rules.onward (state_of stack m) (rules.Running (m.address + 1)) m.status (Number (sum k n) ∷ rest) in
-            refused (rw (items_two stack m.height h, ← e, with_number) (rw (← f) (not_number below _ add x tag)))
+            refused (rw (items_two stack m.height h, ← e, with_number) (rw (← f) (not_number below _ add x other)))
 
-        pub unmark_below : (target : ℕ) → TaggedOneOf 0 2 x → Refuses (Unmark target)
+        pub unmark_below : (target : ℕ) → NoHandler x → Refuses (Unmark target)
         unfolding execute with_number
-        unmark_below target tag = refused (rw (items_two stack m.height h, ← e, with_number, ← f) (not_handler _ _ _ x tag))
+        unmark_below target other = refused (rw (items_two stack m.height h, ← e, with_number, ← f) (not_handler _ _ _ x other))
 
-        pub reset_below : TaggedOneOf 0 1 x → Refuses Reset
+        pub reset_below : NoSaved x → Refuses Reset
         unfolding execute with_number
-        reset_below tag = refused (rw (items_two stack m.height h, ← e, with_number, ← f) (not_saved _ _ _ x tag))
+        reset_below other = refused (rw (items_two stack m.height h, ← e, with_number, ← f) (not_saved _ _ _ x other))
 
       module _ {after : List ℕ} where
         pub added : {k : ℤ} → Reads (Number k) (m.height - 2) → Stored stack (m.height - 2) (Number (sum k n)) after

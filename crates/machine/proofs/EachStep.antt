@@ -9,6 +9,7 @@
 -- Assumes nothing.
 use Prim.Native.Nat.{ℕ, ◌+◌}
 use contract.Lifetimes.{Lfts}
+use denote.MutBor.{MutBor}
 use denote.Ref.{Bor}
 use mathlib.Core.List.{List}
 use mathlib.Core.Option.{some}
@@ -40,21 +41,21 @@ step_answers = step-proof.met
 pub loop_answers : {M : Type 1} → loop-statement.statement M
 loop_answers = loop-proof.met
 
-module _ (lifetimes : Lfts 3) (m : Machine) (code schedule stack : Bor (List ℕ)) where
+module _ (lifetimes : Lfts 3) (m : Machine) (code schedule : Bor (List ℕ)) (stack : MutBor (List ℕ)) where
   pub step_asks : step-promise.Asked lifetimes (m, (code, (schedule, (stack, tt)))) ≡ Steppable code.now stack.now m
   step_asks = refl
 
-  pub step_says : (r : Step) (left : Bor (List ℕ))
+  pub step_says : (r : Step) (left : MutBor (List ℕ))
       → step-promise.Learnt lifetimes (m, (code, (schedule, (stack, tt)))) r (m, (code, (schedule, (left, tt))))
       ≡ Steps code.now schedule.now stack.now m r left.now
   step_says r left = refl
 
-module _ (lifetimes : Lfts 3) (i : Status) (code schedule stack : Bor (List ℕ)) (most : ℕ) where
+module _ (lifetimes : Lfts 3) (i : Status) (code schedule : Bor (List ℕ)) (stack : MutBor (List ℕ)) (most : ℕ) where
   pub loop_asks : loop-promise.Asked lifetimes (i, (code, (schedule, (stack, (most, tt)))))
       ≡ Runnable code.now stack.now most
   loop_asks = refl
 
-  pub loop_says : (r : Stopped) (left : Bor (List ℕ))
+  pub loop_says : (r : Stopped) (left : MutBor (List ℕ))
       → loop-promise.Learnt lifetimes (i, (code, (schedule, (stack, (most, tt))))) r
       (i, (code, (schedule, (left, (most, tt)))))
       ≡ Ran i code.now schedule.now stack.now most r left.now

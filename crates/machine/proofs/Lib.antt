@@ -2,7 +2,7 @@
 --
 --   Stores      a record stored in the stack, read back
 --   Stacked     the items of the stack, from the top
---   Tags        an item that is not of the kind looked for
+--   Others      an item that is not of the kind looked for
 --   Carrying    what is done for an instruction is what its rule says
 --   Removing    what unwinding removes
 --   AtLength    what a run ends in at the length
@@ -17,10 +17,10 @@ pub mod AtLength
 pub mod Carrying
 pub mod EachState
 pub mod EachStep
+pub mod Others
 pub mod Removing
 pub mod Stacked
 pub mod Stepping
 pub mod Stores
-pub mod Tags
 pub mod Turns
 pub mod Underway

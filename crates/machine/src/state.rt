@@ -5,7 +5,7 @@ ghost use Rattle.machine.specs.States.{fresh_of, onward_of, unwound_of, Counting
 
 use rules::Status;
 
-#[derive(Drop)]
+#[derive(Clone, Copy)]
 pub struct Machine {
     // Unwinding, or else running at the address.
     pub unwinding: bool,

@@ -1,0 +1,12 @@
+-- `code::check`: the instructions before a have passed, and there are so many left. Assumes nothing.
+use Prim.Native.Nat.{◌-◌}
+use Rattle.rules.specs.Bytes.{records}
+use Rattle.rules.specs.CodeBytes.{instruction_test}
+use Rattle.rules.proofs.Checking.{Walked}
+use Rattle.code.proofs.check.Given as goal
+
+abbrev pub invariant-loop-a : goal.invariant-loop-a
+invariant-loop-a l = Walked (instruction_test l.code) (records l.code) l.a
+
+abbrev pub decreases-loop-a : goal.decreases-loop-a
+decreases-loop-a l = l.length - l.a
