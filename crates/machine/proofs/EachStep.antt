@@ -72,7 +72,7 @@ pub record EachStep : Type 0 where
   -- A step that is refused is refused by the rules, for the same reason at the same place.
   pub full : (code schedule stack : List ℕ) (m : Machine) (after : List ℕ) → Steps code schedule stack m Full after
       → step (instructions code) (asks schedule) (state_of stack m) ≡ Stuck (record { reason = StackFull; place = m.address })
-  pub no_rule_lem : (code schedule stack : List ℕ) (m : Machine) (after : List ℕ) → Steps code schedule stack m NoRule after
+  pub no_rule : (code schedule stack : List ℕ) (m : Machine) (after : List ℕ) → Steps code schedule stack m NoRule after
       → step (instructions code) (asks schedule) (state_of stack m) ≡ Stuck (record { reason = Reason.NoRule; place = m.address })
   -- Told to take at most k steps, the loop stops in the rules' state after k, where they come as far: one that does all at the
   -- first step, or idles, does not.
@@ -89,6 +89,6 @@ each_step = record {
     each_state can.has can.within.height schedule does i here,
   );
   full = λ code schedule stack m after does. sym does.ruled;
-  no_rule_lem = λ code schedule stack m after does. sym does.ruled;
+  no_rule = λ code schedule stack m after does. sym does.ruled;
   loop = λ i code schedule stack k stopped after ran. ran.state;
 }

@@ -20,6 +20,7 @@
 -- Assumes nothing.
 use Prim.Native.Nat.{ℕ, ◌*◌, ◌-◌, ◌≤◌, ◌<◌}
 use contract.Lifetimes.{Lfts}
+use denote.MutBor.{MutBor}
 use denote.Ref.{Bor}
 use lib.IntN.{pos}
 use lib.ListN.{length, take, drop, replicate}
@@ -123,20 +124,20 @@ run_answers = run-proof.met
 
 -- What they ask and what they say (`src/lib.rt`), word by word, so that a word less breaks this page: they ask nothing, and say
 -- by equation what is the answer and what is left in the buffer, so that no second answer meets them.
-module _ (lifetimes : Lfts 2) (table buffer : Bor (List ℕ)) where
+module _ (lifetimes : Lfts 2) (table : Bor (List ℕ)) (buffer : MutBor (List ℕ)) where
   pub compile_asks : compile-promise.Asked lifetimes (table, (buffer, tt)) ≡ Unit {0}
   compile_asks = refl
 
-  pub compile_says : (answer : CompiledFields) (left : Bor (List ℕ))
+  pub compile_says : (answer : CompiledFields) (left : MutBor (List ℕ))
       → compile-promise.Learnt lifetimes (table, (buffer, tt)) answer (table, (left, tt))
       ≡ ((answer ≡ compiled table.now buffer.now) × (left.now ≡ compile_leaves table.now buffer.now))
   compile_says answer left = refl
 
-module _ (lifetimes : Lfts 3) (status : ℕ) (code schedule stack : Bor (List ℕ)) where
+module _ (lifetimes : Lfts 3) (status : ℕ) (code schedule : Bor (List ℕ)) (stack : MutBor (List ℕ)) where
   pub run_asks : run-promise.Asked lifetimes (status, (code, (schedule, (stack, tt)))) ≡ Unit {0}
   run_asks = refl
 
-  pub run_says : (answer : AnswerFields) (left : Bor (List ℕ))
+  pub run_says : (answer : AnswerFields) (left : MutBor (List ℕ))
       → run-promise.Learnt lifetimes (status, (code, (schedule, (stack, tt)))) answer (status, (code, (schedule, (left, tt))))
       ≡ ((answer ≡ ran status code.now schedule.now stack.now) × (left.now ≡ run_leaves status code.now stack.now))
   run_says answer left = refl
