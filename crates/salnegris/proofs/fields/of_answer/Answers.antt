@@ -1,5 +1,5 @@
 -- `salnegris::fields::of_answer` meets its contract. Assumes nothing.
-use Rattle.std.proofs.Common.{◌≡◌, ℤ, to_z, of_z, w32, rules}
+use Rattle.std.proofs.Common.{◌≡◌, to_z, of_z, w32, rules}
 use Rattle.rules.specs.Answers.{outcome_kind, outcome_number, outcome_refusal, outcome_place}
 use Rattle.salnegris.proofs.fields.of_answer.Goals as goal
 
