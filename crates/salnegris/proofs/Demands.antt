@@ -22,7 +22,7 @@ use Prim.Native.Nat.{ℕ, ◌*◌, ◌-◌, ◌≤◌, ◌<◌}
 use contract.Lifetimes.{Lfts}
 use denote.MutBor.{MutBor}
 use denote.Ref.{Bor}
-use lib.IntN.{pos}
+use lib.IntN.{ℤ, pos}
 use lib.ListN.{length, take, drop, replicate}
 use mathlib.Core.List.{List, [], ◌++◌}
 use mathlib.Core.Logic.{◌↔◌}
@@ -262,31 +262,45 @@ unfolding EndsIn outcome_kind outcome_number
 ended (Number k) a e = rw e (refl, refl)
 ended Throw a e = rw e
 
-ends_once : (v w : End) (a : Answer) → a.outcome ≡ Ended w → EndsIn v (answer_fields a) → w ≡ v
-unfolding EndsIn outcome_kind outcome_number
-ends_once (Number k) (Number m) a e (kind, number) = ap Number (rw e at number)
-ends_once (Number k) Throw a e (kind, number) = absurd (omega (arith, rw e at kind))
-ends_once Throw (Number m) a e kind = absurd (omega (arith, rw e at kind))
-ends_once Throw Throw a e kind = refl
+-- by its fields an answer has one end
+number_once : (w : End) (a : Answer) {k : ℤ} → a.outcome ≡ Ended w → (answer_fields a).kind ≡ 0 → (answer_fields a).number ≡ k
+    → w ≡ Number k
+unfolding outcome_kind outcome_number
+number_once (Number m) a e kind number = ap Number (rw e at number)
+number_once Throw a e kind number = absurd (omega (arith, rw e at kind))
+
+throw_once : (w : End) (a : Answer) → a.outcome ≡ Ended w → (answer_fields a).kind ≡ 1 → w ≡ Throw
+unfolding outcome_kind
+throw_once (Number m) a e kind = absurd (omega (arith, rw e at kind))
+throw_once Throw a e kind = refl
 
 module _ (table buffer : List ℕ) (accepted : (compiled table buffer).refusal ≡ 0)
     (i : Status) (stack : List ℕ) (room : stack_bytes ≤ length stack) where
   all : Passes table buffer
   all = passes table buffer accepted
 
+  abbrev run_under : List ℕ → Answer
+  run_under schedule = run_answer (status_number i) (code_in table buffer) schedule stack
+
   -- the run of the bytes is the run that the theory speaks of
-  answered : (schedule : List ℕ)
-      → run_answer (status_number i) (code_in table buffer) schedule stack ≡ of_expression (recipe table) (asks schedule) i
+  answered : (schedule : List ℕ) → run_under schedule ≡ of_expression (recipe table) (asks schedule) i
   answered schedule = rw (code_left all) (compiled_run all i stack room schedule)
 
-  ends : (schedule : List ℕ) → Ends (recipe table) i (run_answer (status_number i) (code_in table buffer) schedule stack)
+  ends : (schedule : List ℕ) → Ends (recipe table) i (run_under schedule)
   ends schedule = rw (answered schedule) ((recipe_demand all i).ends (asks schedule))
 
-  meets : (v : End) → Gives (recipe table) i v
+  pub demand_3 : Demand3 table buffer i stack
+  unfolding theory.most_steps most_reached EndsIn
+  demand_3 =
+      let once : (v : End) (schedule : List ℕ) → EndsIn v (under table buffer i stack schedule) → (ends schedule).end ≡ v =
+      λ v schedule. elim v as (λ v'. EndsIn v' (under table buffer i stack schedule) → (ends schedule).end ≡ v') [
+        | Number k ↦ λ so. number_once _ (run_under schedule) (ends schedule).ended so.0 so.1
+        | Throw ↦ λ so. throw_once _ (run_under schedule) (ends schedule).ended so
+      ] in
+      let meets : (v : End) → Gives (recipe table) i v
       → (schedule : List ℕ) × Bytes schedule × AsksNothingFrom (most_placed (records table)) (asks schedule)
-      × EndsIn v (under table buffer i stack schedule)
-  unfolding most_reached
-  meets v d =
+      × EndsIn v (under table buffer i stack schedule) =
+      λ v d.
       let (placing, silent, outcome) = (recipe_demand all i).meets v d in
       let last : ℕ = most_reached (recipe table) in
       let schedule : List ℕ = schedule_of placing last in
@@ -295,42 +309,25 @@ module _ (table buffer : List ℕ) (accepted : (compiled table buffer).refusal �
         schedule_of_bytes placing last,
         rw (same, ← (few_nodes all).0) silent,
         ended v _ (rw (answered schedule, same) outcome),
-      )
-
-  pub demand_3 : Demand3 table buffer i stack
-  unfolding theory.most_steps
-  demand_3 = record {
-    exactly = λ v. (
-      (λ met.
-          let (schedule, bytes, ends_so) = met in
-          let run = ends schedule in
-          rw (ends_once v run.end _ run.ended ends_so) at run.permitted),
-      (λ d. let (schedule, bytes, silent, ends_so) = meets v d in (schedule, bytes, ends_so)),
-    );
-    ends = λ schedule.
-        let run = ends schedule in
-        (run.end, ended run.end _ run.ended, omega (arith, run.within_steps, (few_nodes all).0));
-    meets = meets;
-  }
+      ) in
+      record {
+        exactly = λ v. (
+          (λ met. let (schedule, bytes, ends_so) = met in rw (once v schedule ends_so) at (ends schedule).permitted),
+          (λ d. let (schedule, bytes, silent, ends_so) = meets v d in (schedule, bytes, ends_so)),
+        );
+        ends = λ schedule.
+            let run = ends schedule in
+            (run.end, ended run.end _ run.ended, omega (arith, run.within_steps, (few_nodes all).0));
+        meets = meets;
+      }
 
 -- the bounds, met
 
-may_throw : (b : ℕ) → most_placed (records just_nine) ≤ b
-    → (schedule : List ℕ) × AsksNothingFrom b (asks schedule)
-    × EndsIn Throw (under just_nine code_buffer Unblocked stack_buffer schedule)
-may_throw b enough =
-    let schedule : List ℕ = schedule_of at_push 1 in
-    let same : asks schedule ≡ at_push = fun_ext (asks_schedule_of at_push 1 at_push_only) in (
-      schedule,
-      rw same (λ k past. at_push_only k (omega (arith, enough, past))),
-      ended Throw _ (rw (just_nine_cut schedule same)),
-    )
-
-needs_one : (b : ℕ) (schedule : List ℕ) → AsksNothingFrom b (asks schedule)
-    → EndsIn Throw (under just_nine code_buffer Unblocked stack_buffer schedule) → most_placed (records just_nine) ≤ b
+uncut : (b : ℕ) (schedule : List ℕ) → AsksNothingFrom b (asks schedule)
+    → EndsIn Throw (under just_nine code_buffer Unblocked stack_buffer schedule) → 0 < b
 unfolding EndsIn outcome_kind
-needs_one b schedule silent ends_so = elim (dec_lt 0 b) [
-  | yes one ↦ omega (arith, one)
+uncut b schedule silent ends_so = elim (dec_lt 0 b) [
+  | yes one ↦ one
   | no none-placed ↦
       let number = just_nine_uncut schedule (λ k h. silent k (omega (arith, none-placed))) in
       absurd (omega (arith, rw number at ends_so))
@@ -341,7 +338,16 @@ exact = record {
   accepted = (opened_one_accepted, just_nine_accepted);
   steps = ap (λ a. a.steps) opened_one_cut;
   permitted = INT;
-  placed = λ b. ((λ met. let (schedule, silent, ends_so) = met in needs_one b schedule silent ends_so), may_throw b);
+  placed = λ b. (
+    (λ met. let (schedule, silent, ends_so) = met in let one : 0 < b = uncut b schedule silent ends_so in omega arith),
+    (λ enough.
+        let schedule : List ℕ = schedule_of at_push 1 in
+        let same : asks schedule ≡ at_push = fun_ext (asks_schedule_of at_push 1 at_push_only) in (
+          schedule,
+          rw same (λ k past. at_push_only k (omega (arith, enough, past))),
+          ended Throw _ (rw (just_nine_cut schedule same)),
+        )),
+  );
 }
 
 module _ (table buffer : List ℕ) (accepted : (compiled table buffer).refusal ≡ 0) where
