@@ -1,6 +1,6 @@
 -- A step of the machine is by the rule for what it does: at an instruction of its code, or unwinding with an item.
 --
---   ready               what it asks of a machine that runs
+--   ready, unwindable   what it asks of a machine that runs, and of one that unwinds
 --   unwound             unwinding: an item is removed
 --   cut                 running: a recall that bites
 --   carried_out         without one, what is done is what the instruction's rule says
@@ -23,7 +23,7 @@ use Rattle.rules.specs.declared.Instruction.TheVariants.{Throw}
 use Rattle.rules.proofs.Step.Counted.{Counted, instruction_counted, unwound_counted}
 use Rattle.rules.proofs.Bytes.Instructions.{instruction_found}
 use Rattle.machine.specs.Items.{items_of}
-use Rattle.machine.specs.States.{state_of, step_of, onward_of, Ready, AtInstruction, HasStep, Steppable}
+use Rattle.machine.specs.States.{state_of, step_of, onward_of, Ready, Unwindable, AtInstruction, HasStep, Steppable}
 use Rattle.machine.specs.States.{Carries, Steps, Unwinds}
 use Rattle.machine.specs.declared.state.Machine.{Machine}
 use Rattle.machine.specs.declared.step.Step.{Step}
@@ -85,6 +85,9 @@ thrown stack m = record { ruled = refl; beyond = refl }
 
 module _ {code stack : List ℕ} {m : Machine} (can : Steppable code stack m) where
   module _ (unwinding : m.unwinding ≡ true) where
+    pub unwindable : Unwindable stack m
+    unwindable = record { within = can.within; some = can.has.unwinding unwinding }
+
     pub unwound : (schedule : List ℕ) {next : Machine} → Unwinds stack m next → Steps code schedule stack m (Next next) stack
     unfolding step_of
     unwound schedule e = record { ruled = sym (step_unwinding code schedule stack m unwinding ∙ e); beyond = refl }

@@ -2,7 +2,8 @@
 --
 --   at_the_length           it runs at the length: the end, or 14
 --   nothing_to_unwind       it unwinds with no item: a throw
---   an_item_to_unwind       otherwise there is a step to take
+--   at_an_instruction, an_item_to_unwind
+--                           otherwise there is a step to take
 --   steppable               and with steps left it can be taken
 --   full, no_rule_lem       and is refused, by 13 or 14
 --   within, more, on        or is taken, by a loop within the run, and the run is underway after it
@@ -16,7 +17,7 @@ use mathlib.Core.Bool.{true, false, false≢true}
 use mathlib.Core.List.{List}
 use mathlib.Core.Path.{◌≡◌, sym, ◌∙◌}
 use Rattle.rules.specs.Bytes.{records}
-use Rattle.rules.specs.Limits.{stack_bytes}
+use Rattle.rules.specs.Limits.{code_limit, stack_bytes}
 use Rattle.rules.specs.Machine.{Over, at_length, step_at, unwind}
 use Rattle.rules.specs.declared.End.{End}
 use Rattle.rules.specs.declared.Outcome.{Outcome}
@@ -36,6 +37,12 @@ use Rattle.machine.proofs.Underway.{Underway, Onward, Stops, goes_on, ended, ref
 -- ---- where there is a step to take
 
 module _ {code : List ℕ} {m : Machine} where
+  pub at_an_instruction : length code ≤ code_limit → m.unwinding ≡ false → m.address < records code → HasStep code m
+  at_an_instruction few running below = record {
+    running = λ e. record { below = below; limit = omega (arith, below, few) };
+    unwinding = λ e. absurd (false≢true (sym running ∙ e));
+  }
+
   pub an_item_to_unwind : m.unwinding ≡ true → (m.height ≡ 0 → ⊥) → HasStep code m
   an_item_to_unwind unwinding some = record {
     running = λ e. absurd (false≢true (sym e ∙ unwinding));
