@@ -9,7 +9,7 @@ SEED ?= 1
 # what a build takes: the header, the archive, the pkg-config file
 LIB = target/lib
 # what a proof is made of
-PROVED = crates.txt $(shell find crates -name '*.rt' -o -name '*.antt')
+PROVED = crates.txt $(shell find crates -name out -prune -o \( -name '*.rt' -o -name '*.antt' \) -print)
 
 .DEFAULT_GOAL = check
 
@@ -18,19 +18,24 @@ PROVED = crates.txt $(shell find crates -name '*.rt' -o -name '*.antt')
 rehearse: target/bin/rehearse
 	@target/bin/rehearse <"$(RECIPE)"
 
-# the proved function and its one line of C; what the prover says goes to target/build.log, and to the screen if it refuses
-target/bin/rehearse: crates/rehearse/c/main.c $(PROVED)
-	@[ -x $@ ] || echo "proving and building rehearse; the first time takes a minute or two" >&2
-	@mkdir -p target/bin
-	@rt staticlib rehearse >target/build.log 2>&1 || { cat target/build.log >&2; exit 1; }
-	@gcc -std=c99 -O2 -Wall -Wextra $< target/staticlib/librehearse.a -o $@
+# proved CRATE COMMAND: the command builds the crate; what it says goes to target/CRATE.log, and to the screen if it refuses
+define proved
+@[ -e $@ ] || echo "proving and building $@; the first time takes some minutes" >&2
+@mkdir -p $(@D)
+@(cd crates/$(1) && $(2)) >target/$(1).log 2>&1 </dev/null || { cat target/$(1).log >&2; exit 1; }
+endef
 
-# the program that puts document 01's cases through the library
+# The rehearsal program, and the one that puts document 01's cases through the library. What builds a program also runs it, here on
+# no input.
+target/bin/rehearse: $(PROVED)
+	$(call proved,rehearse_main,rt run)
+	@install -m 755 crates/rehearse_main/out/rehearse_main $@
+
 target/bin/cases: $(PROVED)
-	@mkdir -p target/bin
-	@rt check cases >target/build.log 2>&1 || { cat target/build.log >&2; exit 1; }
+	$(call proved,cases,rt run)
+	@install -m 755 crates/cases/out/cases $@
 
-# the whole gate, from nothing
+# the whole gate
 .PHONY: test
 test:
 	@scripts/test
@@ -38,7 +43,7 @@ test:
 # what has changed since it was last proved, without the must-fail edits
 .PHONY: check
 check:
-	@rt check
+	@rt all check
 
 # the static library with its header
 .PHONY: lib
@@ -46,8 +51,8 @@ lib: $(LIB)/salnegris.h $(LIB)/libsalnegris.a
 	@echo "$(LIB) has salnegris.h and libsalnegris.a"
 
 $(LIB)/libsalnegris.a: $(PROVED)
-	@rt staticlib salnegris
-	@install -D -m 644 target/staticlib/libsalnegris.a $@
+	$(call proved,salnegris_c,rt lib)
+	@install -m 644 crates/salnegris_c/out/libsalnegris_c.a $@
 
 $(LIB)/salnegris.h: include/salnegris.h
 	@install -D -m 644 $< $@

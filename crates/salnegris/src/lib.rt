@@ -31,16 +31,14 @@ pub struct AnswerFields {
     pub reached: u32,
 }
 
-#[unsafe(no_mangle)]
-pub extern "C" fn salnegris_compile(table: &[u8], code: &mut [u8]) -> CompiledFields
+pub fn salnegris_compile(table: &[u8], code: &mut [u8]) -> CompiledFields
     ensures answer { result ≡ compiled_fields (compile_answer table.now code.old) }
     ensures leaves { code.new ≡ compile_leaves table.now code.old }
 {
     fields::of_compiled(compiler::compile(table, code))
 }
 
-#[unsafe(no_mangle)]
-pub extern "C" fn salnegris_run(
+pub fn salnegris_run(
     status: u8,
     code: &[u8],
     schedule: &[u8],
