@@ -87,4 +87,4 @@ compare: lib
 
 .PHONY: clean
 clean:
-	rm -rf target
+	rm -rf target crates/*/out
