@@ -10,8 +10,8 @@
  *   - no buffer that is written (code in salnegris_compile, stack in salnegris_run) overlaps another
  *     one of the same call;
  *   - a pointer is not null, except that an empty schedule may be (NULL, 0);
- *   - about 110 KiB of call stack for salnegris_compile, if a recipe may be nested 512 deep (on
- *     x86-64: 1.2 KiB, and 208 bytes for each level); salnegris_run takes less than 1 KiB.
+ *   - about 34 KiB of call stack for salnegris_compile, if a recipe may be nested 512 deep (on
+ *     x86-64: 1.2 KiB, and 64 bytes for each level); salnegris_run takes less than 1 KiB.
  *
  *     uint8_t code[SALNEGRIS_CODE_BYTES], stack[SALNEGRIS_STACK_BYTES];
  *     salnegris_compiled c = salnegris_compile(table, table_len, code, sizeof code);

@@ -33,7 +33,7 @@
 //!
 //! [`run`] takes code from elsewhere too, a status byte and a stack of any length, and may refuse them.
 //!
-//! Compiling the deepest table takes about 110 KiB of call stack (on x86-64 208 bytes for each level), which a thread of the
+//! Compiling the deepest table takes about 34 KiB of call stack (on x86-64 64 bytes for each level), which a thread of the
 //! standard library has unless it asks for less. A run takes less than 1 KiB.
 
 #![no_std]
