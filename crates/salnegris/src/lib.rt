@@ -1,4 +1,4 @@
-// The C interface: what a worker links. `include/salnegris.h` says the same for a C programmer.
+// The C interface: what a worker links, as `salnegris_c` exports it. `include/salnegris.h` says the same for a C programmer.
 
 #![tactic(auto)]
 
