@@ -38,12 +38,7 @@ pub fn salnegris_compile(table: &[u8], code: &mut [u8]) -> CompiledFields
     fields::of_compiled(compiler::compile(table, code))
 }
 
-pub fn salnegris_run(
-    status: u8,
-    code: &[u8],
-    schedule: &[u8],
-    stack: &mut [u8],
-) -> AnswerFields
+pub fn salnegris_run(status: u8, code: &[u8], schedule: &[u8], stack: &mut [u8]) -> AnswerFields
     ensures answer { result ≡ answer_fields
         (run_answer status code.now schedule.now stack.old) }
     ensures leaves { stack.new ≡ run_leaves status code.now stack.old }
