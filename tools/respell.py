@@ -3,10 +3,11 @@
 
 usage: tools/respell.py [FOLDER]      at the top of the repository, or of FOLDER; run once, after the kit's port.py
 
-Each name that a file of crates/*/specs or a file of lemmas of crates/*/proofs declares, and that begins with a small letter and has a
-capital or a dash in it, gets plain underscores: codeLength is code_length, run-answers is run_answers. So do its uses, in .antt and .rt
-files, in must-fail edits and in the pages. Types, modules, constructors, functions of src/ and the names that Rattle makes keep their
-spelling. A lemma that would have its definition's name gets _lem. It stops, and writes nothing, where two names would fall together.
+Each name that a file of crates/*/specs or a file of lemmas of crates/*/proofs declares, and that begins with a small letter and
+has a capital or a dash in it, gets plain underscores: codeLength is code_length, run-answers is run_answers. So do its uses, in
+.antt and .rt files, in must-fail edits and in the pages. Types, modules, constructors, functions of src/ and the names that Rattle
+makes keep their spelling. A lemma that would have its definition's name gets _lem. It stops, and writes nothing, where two names
+would fall together.
 """
 
 import collections

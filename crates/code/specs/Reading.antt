@@ -1,8 +1,8 @@
 -- What reading an instruction answers (document 01, "The code" and "Refusal numbers").
 --
---   reading_at      the instruction, or the refusal of its tests 10, 11 and 12
+--   reading_at        the instruction, or the refusal of its tests 10, 11 and 12
 --   operand_fits_at   test 11 on the operand, by the opcode
---   target_fits_at   test 12, by the opcode
+--   target_fits_at    test 12, by the opcode
 --
 -- Assumes nothing.
 use Rattle.std.specs.Prelude.{ℕ, Bool, List}

@@ -1,11 +1,11 @@
 -- The items of the stack, read one by one and seen from the top.
 --
---   item_read        the tag and the operand at a place say its item
---   tagged_other     a tag above 2 says the saved status unblocked
+--   item_read         the tag and the operand at a place say its item
+--   tagged_other      a tag above 2 says the saved status unblocked
 --   length_items_of   there are as many as the height
---   items_none       at height 0 there is none
---   items_top        from height 1 on there is a top
---   items_two        from height 2 on there is a second
+--   items_none        at height 0 there is none
+--   items_top         from height 1 on there is a top
+--   items_two         from height 2 on there is a second
 --
 -- Assumes nothing.
 use Prim.Native.Nat.{ℕ, zero, suc, ◌+◌, ◌-◌, ◌*◌, ◌≤◌}

@@ -4,9 +4,9 @@
 --   item_tagged   the item that a tag and an operand say
 --   item_at       the item at a place, counted from the bottom
 --   items_of      the items below a height, the top first
---   handler_of   the address of a handler
---   Storable     an item can be put at a place
---   Stored       it was put there: it stands over the items below, and what lies past the stack's bytes has not moved
+--   handler_of    the address of a handler
+--   Storable      an item can be put at a place
+--   Stored        it was put there: it stands over the items below, and what lies past the stack's bytes has not moved
 --
 -- Assumes nothing.
 use Rattle.std.specs.Prelude.{ℕ, zero, suc, ◌+◌, ◌*◌, ◌^◌, ◌≤◌, ◌<◌, length, drop, List, [], ◌∷◌, ◌≡◌}

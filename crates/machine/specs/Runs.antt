@@ -1,10 +1,10 @@
 -- What the run's loop asks and promises. How many steps it may take is told to it, so that its promise speaks of every state of a
 -- run, and not of the last one alone.
 --
---   Runnable   a code and a stack of the sizes that the tests 8 and 9 let pass, and no more steps than a run may take
+--   Runnable    a code and a stack of the sizes that the tests 8 and 9 let pass, and no more steps than a run may take
 --   answer_of   the answer of a run that has stopped
---   Ran        the run from a fresh state in this status, of at most so many steps: its answer, the state that it is left in,
---              and nothing moved past the stack's bytes
+--   Ran         the run from a fresh state in this status, of at most so many steps: its answer, the state that it is left in,
+--               and nothing moved past the stack's bytes
 --
 -- Assumes nothing.
 use Rattle.std.specs.Prelude.{ℕ, ◌≤◌, length, drop, List, ◌≡◌}

@@ -5,18 +5,18 @@
 --   step_of     what a step comes to, as the rules have it
 --   fresh_of    the machine in which a run begins
 --   onward_of, unwound_of
---              the machine after a step
---   Counting   its counts let it take a step
---   Within     and its items are within their limit, and in the buffer
+--               the machine after a step
+--   Counting    its counts let it take a step
+--   Within      and its items are within their limit, and in the buffer
 --   Ready, Unwindable
---              and there is an address to go on from, or an item to remove
+--               and there is an address to go on from, or an item to remove
 --   AtInstruction
---              it stands at an instruction of the code
---   HasStep    there is a step to take: if it runs, it is at an instruction; if it unwinds, it has an item
+--               it stands at an instruction of the code
+--   HasStep     there is a step to take: if it runs, it is at an instruction; if it unwinds, it has an item
 --   Steppable   all that a step asks
---   Does       a step does what a rule says, and moves nothing past the stack's bytes
+--   Does        a step does what a rule says, and moves nothing past the stack's bytes
 --   Carries, Pushes, Steps, Unwinds
---              the rules by name
+--               the rules by name
 --
 -- Assumes nothing.
 use Rattle.std.specs.Prelude.{ℕ, ◌+◌, ◌≤◌, ◌<◌, length, drop, Bool, true, false, cond, List, ◌≡◌}

@@ -1,6 +1,6 @@
 -- The line of an answer by its fields (`specs/Fields.antt`).
 --
---   other_kind    a kind that is neither a number's nor a throw's says the line of a refusal
+--   other_kind        a kind that is neither a number's nor a throw's says the line of a refusal
 --   fields_line_lem   the fields of an answer give the answer's line
 --
 -- Assumes nothing.

@@ -2,7 +2,7 @@
 -- the status is one of the two, and which of them goes by what `write` answered.
 --
 --   line_status   by whether the line is written
---   ExitsWith    by whether there are arguments
+--   ExitsWith     by whether there are arguments
 --
 -- Assumes nothing.
 use Rattle.std.specs.Prelude.{ℕ, Bool, true, false, ◌≡◌}

@@ -2,7 +2,7 @@
 --
 --   turn_of   what a call of `read` came to, by its answer and the bytes that it was lent: at an error it failed, at 0 the input
 --             ends
---   Fits     all that was read is a count of the bytes lent, unless a call failed
+--   Fits      all that was read is a count of the bytes lent, unless a call failed
 --
 -- Assumes nothing.
 use Rattle.std.specs.Prelude.{ℕ, zero, suc, min, List, Result, Ok, Err}

@@ -1,6 +1,6 @@
 -- What the functions that put text into the line promise.
 --
---   Written     a text stands at a place of the line, behind what stood before that place; and the place after it
+--   Written      a text stands at a place of the line, behind what stood before that place; and the place after it
 --   line_bytes   the bytes of the buffer that is lent for the line
 --
 -- Assumes nothing.

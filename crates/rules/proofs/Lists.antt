@@ -2,7 +2,7 @@
 --
 --   missing_past         from the length on nothing stands
 --   below_found          so what stands somewhere stands below it
---   found_get_d          namely what `get_or` gives
+--   found_get_or         namely what `get_or` gives
 --   found_front          of two lists, in the front one
 --   found_seam           and where they meet
 --
@@ -15,9 +15,9 @@
 -- Rows that are numbered from 1, as `row_numbered` looks them up.
 --
 --   RowKnown, row_known   there is one of each number up to their length
---   row_unknown          and none of any other
+--   row_unknown           and none of any other
 --   NoneOf, row_none_of   nor of a number that differs from each of those
---   each_row             of each row and its number, so of the row that a number names
+--   each_row              of each row and its number, so of the row that a number names
 --
 -- Assumes nothing.
 use Prim.Native.Nat.{ℕ, zero, suc, ◌+◌, ◌≤◌, ◌<◌}
@@ -41,10 +41,10 @@ module _ {A : Type 0} where
     | no past ↦ absurd (none-ne-some _ (sym (missing_past l k (omega arith)) ∙ e))
   ]
 
-  pub found_get_d : (l : List A) (k : ℕ) (default : A) → k < length l → get_elem? l k ≡ some (get_or l k default)
-  found_get_d [] k default h = absurd (omega arith)
-  found_get_d (x ∷ l) zero default h = refl
-  found_get_d (x ∷ l) (suc k) default h = found_get_d l k default (omega arith)
+  pub found_get_or : (l : List A) (k : ℕ) (default : A) → k < length l → get_elem? l k ≡ some (get_or l k default)
+  found_get_or [] k default h = absurd (omega arith)
+  found_get_or (x ∷ l) zero default h = refl
+  found_get_or (x ∷ l) (suc k) default h = found_get_or l k default (omega arith)
 
   pub found_front : (front back : List A) (k : ℕ) → k < length front → get_elem? (front ++ back) k ≡ get_elem? front k
   found_front [] back k h = absurd (omega arith)

@@ -2,9 +2,9 @@
 --
 --   status_number, status_numbered   "a status is 0, blocked, or 1, unblocked", and back
 --   outcome_kind, outcome_number, outcome_refusal, outcome_place
---                                  the fields of what a run comes to: "fields that don't apply are 0"
+--                                    the fields of what a run comes to: "fields that don't apply are 0"
 --   compiled_length, compiled_refusal, compiled_place
---                                  the fields of what compiling answers
+--                                    the fields of what compiling answers
 --
 -- Assumes nothing.
 use Rattle.std.specs.Prelude.{ℕ, zero, suc, ℤ, pos}

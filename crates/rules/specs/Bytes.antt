@@ -1,11 +1,11 @@
 -- Bytes and records of eight bytes (document 01, "The recipe table" and "The code"). A buffer is the list of its bytes.
 --
 --   byte_at, half_at, word_at   a field of one, two or four bytes, "little-endian"
---   word_bytes                the four bytes of a word
---   all_zero                 the bytes of a record at these offsets are zero
---   records                  how many records there are
---   row_numbered, row_at      a row of a list whose rows are numbered from 1; the row that a record's first byte names
---   whole_records            the bytes are not 0, not above a size, and a multiple of 8 (tests 1 and 9)
+--   word_bytes                  the four bytes of a word
+--   all_zero                    the bytes of a record at these offsets are zero
+--   records                     how many records there are
+--   row_numbered, row_at        a row of a list whose rows are numbered from 1; the row that a record's first byte names
+--   whole_records               the bytes are not 0, not above a size, and a multiple of 8 (tests 1 and 9)
 --
 -- Assumes nothing.
 use Rattle.std.specs.Prelude.{ℕ, zero, suc, ◌+◌, ◌*◌, ◌/◌, ◌%◌, leb, ltb, eqb, length, get_or, Bool, true, ◌&&◌, List, [], ◌∷◌}

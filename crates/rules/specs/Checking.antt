@@ -1,8 +1,8 @@
 -- What the readers and checkers of records answer, of tables and of code alike (document 01, "Refusal numbers").
 --
---   answer_by     the refusal that was found, or else what was asked for
+--   answer_by      the refusal that was found, or else what was asked for
 --   check_answer   what checking answers: how many records there are, or the refusal of the first test that refuses
---   row_passes    a test that a row of kinds or opcodes makes, passed where the number names none
+--   row_passes     a test that a row of kinds or opcodes makes, passed where the number names none
 --
 -- Assumes nothing.
 use Rattle.std.specs.Prelude.{ℕ, Bool, true, List}

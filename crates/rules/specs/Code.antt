@@ -2,7 +2,7 @@
 --
 --   code_length   document 01's last column, summed over the nodes
 --   compile a e   e's instructions when the first of them stands at address a
---   target_of      the target of an instruction, 0 where it has none
+--   target_of     the target of an instruction, 0 where it has none
 --
 -- Assumes nothing.
 use Rattle.std.specs.Prelude.{ℕ, ◌+◌, List, [], ◌∷◌, ◌++◌}

@@ -2,12 +2,12 @@
 --
 --   instruction_bytes   the eight bytes of an instruction
 --   bytes_of            the bytes of a code
---   Form               what an operand is
---   opcodes            document 01's list of opcodes: what the operand is, the instruction made
---   instruction_at     the instruction that a record says
---   instructions       the code that bytes say
---   instruction_test   tests 10, 11 and 12 of an instruction
---   code_tests         the tests 9 to 12 in their order
+--   Form                what an operand is
+--   opcodes             document 01's list of opcodes: what the operand is, the instruction made
+--   instruction_at      the instruction that a record says
+--   instructions        the code that bytes say
+--   instruction_test    tests 10, 11 and 12 of an instruction
+--   code_tests          the tests 9 to 12 in their order
 --
 -- Assumes nothing.
 use Rattle.std.specs.Prelude.{ℕ, zero, suc, ◌+◌, ◌*◌, ltb, leb, eqb, Bool, true, ◌&&◌, List, [], ◌∷◌, ◌++◌}

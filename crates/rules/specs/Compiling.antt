@@ -2,7 +2,7 @@
 -- numbers").
 --
 --   code_of          the code of the expression that a table holds
---   compile_tests   the tests 1 to 6 in their order
+--   compile_tests    the tests 1 to 6 in their order
 --   compile_answer   "the code length in instructions, or 0 with the refusal"
 --   compile_leaves   "the code fills the front of the buffer and later bytes stay as they were. Refused, it writes nothing."
 --

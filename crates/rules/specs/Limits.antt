@@ -1,10 +1,10 @@
 -- The sizes that document 01 fixes ("The recipe table", "One step of the machine", "Refusal numbers").
 --
 --   record_bytes   the bytes of a node, of an instruction and of an item
---   node_limit    the nodes of a table, and `table_limit`, its bytes
---   code_limit    the bytes of a code, and `instruction_limit`, its instructions
---   item_limit    the items on the stack, and `stack_bytes`, the bytes lent for them
---   step_limit    the steps of a run
+--   node_limit     the nodes of a table, and `table_limit`, its bytes
+--   code_limit     the bytes of a code, and `instruction_limit`, its instructions
+--   item_limit     the items on the stack, and `stack_bytes`, the bytes lent for them
+--   step_limit     the steps of a run
 --
 -- Assumes nothing.
 use Rattle.std.specs.Prelude.{ℕ}

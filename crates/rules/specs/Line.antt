@@ -1,14 +1,14 @@
 -- The line that the rehearsal program prints (document 01, "The rehearsal program"). A text is the list of its character codes.
 --
---   ascii                     the codes of a text's characters
---   decimal                   "numbers in decimal"
---   integer                   "(a minus sign where negative)"
---   totals                    ` steps 1 reached 1`, "and a line feed at its end"
---   number_line               `number 9 steps 1 reached 1`
---   throw_line                `throw steps 1 reached 1`
---   refused_line              `refused 5 at 0`: a refusal's number, and its place
+--   ascii                       the codes of a text's characters
+--   decimal                     "numbers in decimal"
+--   integer                     "(a minus sign where negative)"
+--   totals                      ` steps 1 reached 1`, "and a line feed at its end"
+--   number_line                 `number 9 steps 1 reached 1`
+--   throw_line                  `throw steps 1 reached 1`
+--   refused_line                `refused 5 at 0`: a refusal's number, and its place
 --   outcome_line, answer_line   the line for an answer
---   rehearsal_line            the line for an input
+--   rehearsal_line              the line for an input
 --
 -- Assumes nothing.
 use Prim.Native.Char.{code}

@@ -1,7 +1,7 @@
 -- The expression that an accepted table holds (document 01, "The recipe table").
 --
 --   expression_at   the expression of a node
---   recipe         "the last is the whole expression"
+--   recipe          "the last is the whole expression"
 --
 -- Assumes nothing.
 use Rattle.std.specs.Prelude.{ℕ, zero, suc, ◌-◌, List}

@@ -1,8 +1,8 @@
 -- Refusals and the order of tests (document 01, "Refusal numbers").
 --
 --   refusal_number   the number of each reason, 1 to 15
---   unless          no refusal if a test passes, and else its reason and place
---   first_refusal   the refusal of a row of tests: that of the first that refuses
+--   unless           no refusal if a test passes, and else its reason and place
+--   first_refusal    the refusal of a row of tests: that of the first that refuses
 --   lowest_refusal   the same for one test at each place upward
 --
 -- Assumes nothing.

@@ -1,8 +1,8 @@
 -- R1 to R12 (document 01, "Rehearsed recipes"), as bytes that go in and the answer that must come.
 --
---   Rehearsed         a status, a table, a schedule, and the answer
+--   Rehearsed           a status, a table, a schedule, and the answer
 --   rehearsed_recipes   R1 to R12
---   AsRehearsed       each of them comes to its answer
+--   AsRehearsed         each of them comes to its answer
 --
 -- Assumes nothing.
 use Rattle.std.specs.Prelude.{ℕ, ℤ, pos, negsuc, ◌≡◌, List, [], ◌∷◌, ◌++◌, map}

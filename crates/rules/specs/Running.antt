@@ -1,10 +1,10 @@
 -- What running answers and what it leaves in the stack buffer, for every status, code, schedule and buffer (document 01,
 -- "Refusal numbers").
 --
---   run_tests   the tests 7 to 12 in their order
+--   run_tests    the tests 7 to 12 in their order
 --   run_answer   the answer: refusals 7 to 12 report no totals, the others both
 --   run_leaves   "Refusals 7 to 12 write nothing. Otherwise the first 4,096 bytes are zero afterwards and the rest is
---               untouched."
+--                untouched."
 --
 -- Assumes nothing.
 use Rattle.std.specs.Prelude.{ℕ, ltb, leb, length, drop, replicate, List, ◌∷◌, ◌++◌}

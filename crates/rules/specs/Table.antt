@@ -1,11 +1,11 @@
 -- The recipe table and its tests 1 to 5 (document 01, "The recipe table" and "Refusal numbers").
 --
---   kinds        document 01's table of kinds: the node that a record says, and which of its bytes are zero
---   node_at      the node of a number
+--   kinds         document 01's table of kinds: the node that a record says, and which of its bytes are zero
+--   node_at       the node of a number
 --   operands_of   the nodes that a node names
---   node_test    tests 2, 3 and 4 of a node
---   uses         how often a node is an operand
---   use_test     test 5 of a node
+--   node_test     tests 2, 3 and 4 of a node
+--   uses          how often a node is an operand
+--   use_test      test 5 of a node
 --   table_tests   the tests 1 to 5 in their order
 --
 -- Assumes nothing.

@@ -2,7 +2,7 @@
 -- them fit 32 bits.
 --
 --   compiled_fields, answer_fields   the fields of an answer, each by its own definition in `rules`
---   CompiledFits, AnswerFits       no field is too large for its 32 bits
+--   CompiledFits, AnswerFits         no field is too large for its 32 bits
 --
 -- Assumes nothing.
 use Rattle.std.specs.Prelude.{◌^◌, ◌<◌}

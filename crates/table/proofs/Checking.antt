@@ -1,6 +1,6 @@
 -- What checking a table answers, by the first of its tests that refuses.
 --
---   size_refused                 test 1
+--   size_refused                  test 1
 --   nodes_refused, nodes_passed   then the walk over the nodes, and then the uses
 --
 -- Assumes nothing.

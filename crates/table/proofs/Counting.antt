@@ -1,11 +1,11 @@
 -- The counting law: where every operand lies below its node, and every node but the last of the first n is an operand once, what
 -- each node adds to its operands comes to the whole of the last. Each node's whole is counted twice, by itself and by its uses.
 --
---   sum_below            the sum of a function over the numbers below n
---   sum_over             and over a list of numbers
+--   sum_below             the sum of a function over the numbers below n
+--   sum_over              and over a list of numbers
 --   code_length_of_node   a node's code is its operands' code and what it adds
---   whole_counted        the law, over an arbitrary weight
---   nodes_counted        so the last node's expression has n nodes
+--   whole_counted         the law, over an arbitrary weight
+--   nodes_counted         so the last node's expression has n nodes
 --   code_length_counted   and its code is as long as the column's sum
 --
 -- Assumes nothing.

@@ -1,15 +1,15 @@
 -- What reading a node answers, by its tests 2, 3 and 4, and what an answer says of them.
 --
 --   node_read, no_node_read
---                   the node, from the kind and the fields that were read
---   reads_unknown   a number that is no kind
---   tests           the tests of a node whose kind is known, one after the other
+--                    the node, from the kind and the fields that were read
+--   reads_unknown    a number that is no kind
+--   tests            the tests of a node whose kind is known, one after the other
 --   operands_named   what is named is the node's operands
 --   told, operands_told
---                   what an answer says of the tests, and which nodes it names
---   passed_below    where the tests pass, the operands lie below
+--                    what an answer says of the tests, and which nodes it names
+--   passed_below     where the tests pass, the operands lie below
 --   below_one, below_two, below_first
---                   test 4 on one operand, on the second of two, and on the first where it fails
+--                    test 4 on one operand, on the second of two, and on the first where it fails
 --
 -- Assumes nothing.
 use Prim.Native.Nat.{ℕ, ◌+◌, ◌*◌, ◌≤◌, ◌<◌}

@@ -1,7 +1,7 @@
 -- The expression of a node is made from the expressions of its operands, where every operand lies below the node that names it.
 --
---   below_cons             of operands that are all below, the first is and the others are
---   below_more             what is below a number is below a greater one
+--   below_cons              of operands that are all below, the first is and the others are
+--   below_more              what is below a number is below a greater one
 --   expression_at_unfolds   the levels are gone: the expression of a node, by those of its operands
 --
 -- Assumes nothing.

@@ -1,6 +1,6 @@
 -- The last column of document 01's table of kinds: how many instructions a node brings.
 --
---   column      of a node
+--   column       of a node
 --   column_sum   summed over the first n nodes of a table
 --
 -- Assumes nothing.

@@ -1,9 +1,9 @@
 -- What reading a node answers (document 01, "The recipe table" and "Refusal numbers").
 --
---   named        the nodes that are named, from how many they are
+--   named         the nodes that are named, from how many they are
 --   as_operands   and back
 --   operands_at   how many nodes a node names, and which
---   reading_at   that, or the refusal of its tests 2, 3 and 4
+--   reading_at    that, or the refusal of its tests 2, 3 and 4
 --   unused_zero   test 3, by the kind
 --
 -- Assumes nothing.

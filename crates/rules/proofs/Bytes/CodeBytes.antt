@@ -1,9 +1,9 @@
 -- The bytes of a code.
 --
 --   length_instruction_bytes   an instruction has eight
---   length_bytes_of           a code has eight an instruction
---   length_bytes_of_compile   compiled code has eight times its `code_length`
---   bytes_of_append           one code's bytes after another's
+--   length_bytes_of            a code has eight an instruction
+--   length_bytes_of_compile    compiled code has eight times its `code_length`
+--   bytes_of_append            one code's bytes after another's
 --
 -- Assumes nothing.
 use Prim.Native.Nat.{ℕ, ◌*◌}

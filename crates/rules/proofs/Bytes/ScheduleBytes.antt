@@ -1,9 +1,9 @@
 -- A placing as the bytes of a schedule (document 01, "One step of the machine").
 --
 --   schedule_of placing n   the bytes for the first n instructions reached
---   schedule_of_bytes      each is below 256
---   asks_schedule_of       they ask for what the placing asks for, if that is nothing from n on
---   asks_nothing           a schedule of no bytes asks for nothing
+--   schedule_of_bytes       each is below 256
+--   asks_schedule_of        they ask for what the placing asks for, if that is nothing from n on
+--   asks_nothing            a schedule of no bytes asks for nothing
 --
 -- Assumes nothing.
 use Prim.Native.Nat.{ℕ, zero, suc, ◌+◌, ◌*◌, ◌/◌, ◌%◌, ◌^◌, ◌≤◌, ◌<◌}

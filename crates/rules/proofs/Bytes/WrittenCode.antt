@@ -1,11 +1,11 @@
 -- A code written as bytes and read again (document 01, "The code"): its records say its instructions, and the tests 9 to 12 let
 -- it pass.
 --
---   LaneCount              a number that 32 bits say
---   Writable n a x         a record can say x at address a of n: its number is a lane count, its target above a and at most n
---   AllWritable n a xs     the same of each of xs, the first of them at a
+--   LaneCount               a number that 32 bits say
+--   Writable n a x          a record can say x at address a of n: its number is a lane count, its target above a and at most n
+--   AllWritable n a xs      the same of each of xs, the first of them at a
 --   instructions_bytes_of   the bytes of a writable code say the code
---   bytes_of_passes        no test refuses them
+--   bytes_of_passes         no test refuses them
 --
 -- Assumes nothing.
 use Prim.Native.Nat.{ℕ, zero, suc, ◌+◌, ◌*◌, ◌^◌, ◌≤◌, ◌<◌}
@@ -33,7 +33,7 @@ use Rattle.rules.specs.declared.Status.TheVariants.{Blocked, Unblocked}
 use Rattle.rules.proofs.Bytes.CodeBytes.{length_instruction_bytes, length_bytes_of}
 use Rattle.rules.proofs.Bytes.Records.{word_whole}
 use Rattle.rules.proofs.Bytes.Sizes.{whole_passes}
-use Rattle.rules.proofs.Lists.{EachFrom, found_get_d, each_found}
+use Rattle.rules.proofs.Lists.{EachFrom, found_get_or, each_found}
 use Rattle.rules.proofs.Refusals.{lowest_all}
 
 -- ---- what records can say
@@ -59,7 +59,7 @@ abbrev standing : List Instruction → ℕ → Instruction
 standing xs a = get_or xs a Throw
 
 writable_standing : {n : ℕ} {xs : List Instruction} (a : ℕ) → a < length xs → AllWritable n 0 xs → Writable n a (standing xs a)
-writable_standing {xs = xs} a inside all = each_found all a a (omega arith) (found_get_d xs a Throw inside)
+writable_standing {xs = xs} a inside all = each_found all a a (omega arith) (found_get_or xs a Throw inside)
 
 -- ---- one record
 

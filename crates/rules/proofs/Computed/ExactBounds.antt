@@ -2,8 +2,8 @@
 -- (`Demands` of `salnegris` says so). By computation; what must come was worked out from document 01 by hand.
 --
 --   opened_one_accepted, just_nine_accepted   both tables are accepted
---   opened_one_cut   Unblock (Val 1), two nodes, from blocked: a recall at its RESET takes 5 steps, 3n - 1
---   just_nine_cut    Val 9, one node, unblocked: a recall at its one instruction makes it throw
+--   opened_one_cut    Unblock (Val 1), two nodes, from blocked: a recall at its RESET takes 5 steps, 3n - 1
+--   just_nine_cut     Val 9, one node, unblocked: a recall at its one instruction makes it throw
 --   just_nine_uncut   and without one there it comes to its number
 --
 -- Assumes nothing.

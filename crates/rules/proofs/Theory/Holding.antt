@@ -1,11 +1,11 @@
 -- Where an expression's instructions stand in a code.
 --
---   nodes_pos          an expression has a node
---   code_length_pos    and its code an instruction
---   length_compile     the length of its code is document 01's column, summed over the nodes
+--   nodes_pos           an expression has a node
+--   code_length_pos     and its code an instruction
+--   length_compile      the length of its code is document 01's column, summed over the nodes
 --   code_length_nodes   "at most 2n - 1"
---   Holds code a e b   the code holds e's instructions from address a up to b
---   compile_holds      compiled code does, whatever stands before and after it
+--   Holds code a e b    the code holds e's instructions from address a up to b
+--   compile_holds       compiled code does, whatever stands before and after it
 --
 -- Assumes nothing.
 use Prim.Native.Nat.{ℕ, ◌+◌, ◌*◌, ◌≤◌}

@@ -1,4 +1,5 @@
 -- Of `table::check_nodes`: the nodes before j have passed, and their uses are counted; the measure is how many are left.
+-- Assumes nothing.
 use Rattle.std.proofs.Common.{◌-◌}
 use Rattle.table.proofs.Walk.{NodesWalked}
 use Rattle.table.proofs.check_nodes.Given as goal

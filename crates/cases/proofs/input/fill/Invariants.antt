@@ -1,4 +1,4 @@
--- Of `cases::input::fill`: what is read lies in the lent bytes; the measure is how many are left.
+-- Of `cases::input::fill`: what is read lies in the lent bytes; the measure is how many are left. Assumes nothing.
 use Rattle.std.proofs.Common.{◌-◌, ◌≤◌, length}
 use Rattle.cases.proofs.input.fill.Given as goal
 

@@ -1,4 +1,4 @@
--- Of `compiler::measure::measure`: the nodes before k are added up; the measure is how many are left.
+-- Of `compiler::measure::measure`: the nodes before k are added up; the measure is how many are left. Assumes nothing.
 use Rattle.std.proofs.Common.{◌+◌, ◌-◌}
 use Rattle.compiler.proofs.Measuring.{Measured}
 use Rattle.compiler.proofs.measure.measure.Given as goal

@@ -1,5 +1,5 @@
 -- `numbers::lanes::signed` meets its contract: the upper half is -1 less what is left of it. Assumes nothing.
-use Rattle.std.proofs.Common.{◌≡◌, ℕ, suc, ◌-◌, ◌<◌, ◌≤◌, ◌^◌, pos, negsuc, ◌-ℤ◌, ap, arith, to_z-of_z, w32, SFits, to_z, le-ltb}
+use Rattle.std.proofs.Common.{◌≡◌, ℕ, suc, ◌-◌, ◌<◌, ◌≤◌, ◌^◌, negsuc, ◌-ℤ◌, ap, arith, to_z-of_z, w32, SFits, to_z, le-ltb}
 use mir.Facts.{to_z_pos}
 use Rattle.rules.specs.Number.{signed}
 use Rattle.numbers.proofs.Signed.{signed_to_z, minus_one_less_pos}

@@ -1,4 +1,5 @@
 -- Of `record::field::clear`: the bytes before k are zero and the rest is as it was; the measure is how many bytes are left.
+-- Assumes nothing.
 use Rattle.std.proofs.Common.{◌-◌, ◌++◌, ◌≡◌, ◌≤◌, length, drop, replicate}
 use Rattle.record.proofs.field.clear.Given as goal
 

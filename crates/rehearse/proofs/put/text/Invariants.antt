@@ -1,5 +1,5 @@
 -- Of `put::text`: the text's first i bytes stand at the place, the rest of the line is as it was; the measure is how many of the
--- text's bytes are left.
+-- text's bytes are left. Assumes nothing.
 use Rattle.std.proofs.Common.{◌-◌, ◌≡◌, ◌≤◌, length}
 use lib.Seq.{paste}
 use Rattle.rehearse.proofs.put.text.Given as goal

@@ -1,4 +1,4 @@
--- Of `reading::standard_input`: no more is read than there are bytes; the measure is how many are left.
+-- Of `reading::standard_input`: no more is read than there are bytes; the measure is how many are left. Assumes nothing.
 use Rattle.std.proofs.Common.{◌-◌, ◌≡◌, ◌≤◌, length}
 use Rattle.rehearse.proofs.reading.standard_input.Given as goal
 

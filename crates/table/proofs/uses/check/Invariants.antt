@@ -1,4 +1,4 @@
--- Of `table::uses::check`: each count before k is 1; the measure is how many are left.
+-- Of `table::uses::check`: each count before k is 1; the measure is how many are left. Assumes nothing.
 use Rattle.std.proofs.Common.{◌-◌}
 use Rattle.rules.proofs.Checking.{Walked}
 use Rattle.table.specs.Counts.{count_test}
