@@ -1,83 +1,64 @@
 // A case's bytes as a table, compiled.
 
 use super::buffer::{FRESH, show_later, untouched};
-use super::reading::{Meaning, after, first, number};
+use super::case::Case;
+use super::error::Error;
+use super::reading::{number, parted};
 use super::show;
 use salnegris::salnegris_compile;
 use std::io;
 
-// By the word `ROOM`, with a code buffer of so many bytes: at most the longest code, 8,184 bytes, and 16 more.
-pub(crate) fn compile(rt: &impl Print, word: &[u8], name: &[u8], table: &[u8]) -> io::Result<bool> {
-    let Meaning::Is(room) = number(word) else {
-        return Ok(false);
-    };
-    if 8200 < room {
-        return Ok(false);
+impl Case<'_> {
+    // By the word `ROOM`, with a code buffer of so many bytes: at most the longest code, 8,184 bytes, and 16 more. It writes
+    // NAME: ANSWER, LEFT, quiet QUIET.
+    pub(super) fn compile(&self, rt: &impl Print, room: &[u8]) -> Result<(), Error> {
+        let room = number(room)?;
+        let mut longest = [FRESH; 8200];
+        let buffer = longest.get_mut(..room).ok_or(Error::NotUnderstood)?;
+        // The C interface has refusal 0 for none.
+        let answer = salnegris_compile(&self.bytes, buffer);
+        show::name(rt, self.name)?;
+        if answer.refusal == 0 {
+            compiled(rt, answer.length, buffer)?;
+        } else {
+            show::refused(rt, answer.refusal, answer.place as usize)?;
+            refused(rt, buffer)?;
+        }
+        print!(rt; ", quiet ")?;
+        show::outcome(rt, evaluation::evaluate(&self.bytes))?;
+        println!(rt)?;
+        Ok(())
     }
-    let mut buffer = [FRESH; 8200];
-    line(rt, name, table, &mut buffer[0..room])?;
-    Ok(true)
-}
 
-// NAME: ANSWER, LEFT, quiet QUIET.
-fn line(rt: &impl Print, name: &[u8], table: &[u8], buffer: &mut [u8]) -> io::Result<()> {
-    show::text(rt, name)?;
-    show::text(rt, b": ")?;
-    let answer = salnegris_compile(table, buffer);
-    if answer.refusal == 0 {
-        compiled(rt, answer.length as usize, buffer)?;
-    } else {
-        show::refused(rt, answer.refusal as u64, answer.place as u64)?;
-        refused(rt, buffer)?;
+    // By the words `FIRST COUNT`, those instructions of the code, in a buffer for the longest.
+    pub(super) fn code(&self, rt: &impl Print, words: &[u8]) -> Result<(), Error> {
+        let (first, count) = parted(words, b' ');
+        let first = number(first)?;
+        let count = number(count)?;
+        let mut buffer = [FRESH; 8184];
+        salnegris_compile(&self.bytes, &mut buffer);
+        let (instructions, _) = buffer.as_chunks::<8>();
+        let from_first = instructions.get(first..).ok_or(Error::NotUnderstood)?;
+        let asked = from_first.get(..count).ok_or(Error::NotUnderstood)?;
+        show::code(rt, asked)?;
+        Ok(())
     }
-    show::text(rt, b", quiet ")?;
-    show::outcome(rt, evaluation::evaluate(table))?;
-    show::text(rt, b"\n")
 }
 
 // "The code fills the front of the buffer and later bytes stay as they were."
-fn compiled(rt: &impl Print, length: usize, buffer: &[u8]) -> io::Result<()> {
-    show::text(rt, b"length ")?;
-    show::count(rt, length as u64)?;
-    if length <= buffer.len() / 8 {
-        show_later(rt, &buffer[8 * length..])
-    } else {
-        show::text(rt, b", buffer TOO SMALL")
+fn compiled(rt: &impl Print, length: u32, buffer: &[u8]) -> io::Result<()> {
+    print!(rt; "length {length}")?;
+    match buffer.get(8 * length as usize..) {
+        Some(later) => show_later(rt, later),
+        None => print!(rt; ", buffer TOO SMALL"),
     }
 }
 
 // "Refused, it writes nothing."
 fn refused(rt: &impl Print, buffer: &[u8]) -> io::Result<()> {
     if untouched(buffer) {
-        show::text(rt, b", buffer untouched")
+        print!(rt; ", buffer untouched")
     } else {
-        show::text(rt, b", buffer TOUCHED")
+        print!(rt; ", buffer TOUCHED")
     }
-}
-
-// By the words `FIRST COUNT`, those instructions of the code, in a buffer for the longest.
-pub(crate) fn code(rt: &impl Print, words: &[u8], table: &[u8]) -> io::Result<bool> {
-    let Meaning::Is(from) = number(first(words)) else {
-        return Ok(false);
-    };
-    let Meaning::Is(count) = number(after(words)) else {
-        return Ok(false);
-    };
-    let mut buffer = [FRESH; 8184];
-    salnegris_compile(table, &mut buffer);
-    instructions(rt, &buffer, from, count)
-}
-
-fn instructions(rt: &impl Print, code: &[u8], from: usize, count: usize) -> io::Result<bool> {
-    let length = code.len() / 8;
-    if length < from {
-        return Ok(false);
-    }
-    if length - from < count {
-        return Ok(false);
-    }
-    let start = 8 * from;
-    let end = start + 8 * count;
-    show::code(rt, &code[start..end])?;
-    Ok(true)
 }

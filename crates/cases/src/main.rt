@@ -4,10 +4,10 @@
 #![tactic(auto)]
 
 mod buffer;
-mod command;
+mod case;
 mod compiling;
+mod error;
 mod filling;
-mod input;
 mod reading;
 mod running;
 mod script;
@@ -15,12 +15,9 @@ mod show;
 
 use std::io;
 
-// The most that a case has is an instruction more than the longest code, and 1,600 recalls. A script longer than 65,536 bytes
-// would lose its last cases, and what is written would lack them.
+// All buffers have a fixed size, and the C interface lends them. A script longer than 65,536 bytes would lose its last cases, and what is written would lack them.
 fn main(rt: HostRuntime) -> io::Result<()> {
     let mut text = [0; 65536];
-    let read = input::fill(&mut rt.reader(), &mut text)?;
-    let mut bytes = [0; 8192];
-    let mut recalls = [0; 200];
-    script::carry_out(&rt, &text[..read], &mut bytes, &mut recalls)
+    let read = rehearse::reading::standard_input(&mut rt.reader(), &mut text)?;
+    script::carry_out(&rt, &text[..read])
 }

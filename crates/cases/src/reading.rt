@@ -1,85 +1,41 @@
 // Words of a line, and the numbers that they spell.
 
-ghost use Rattle.std.specs.Prelude.{ℕ, ◌≡◌, ◌≢◌, ◌<◌, ◌≤◌, length, slice_index};
+ghost use Rattle.std.specs.Prelude.{◌<◌, IfOk};
 
-// What a text says, or that it says nothing of the kind.
-#[derive(Drop)]
-pub(crate) enum Meaning {
-    Is(usize),
-    None,
-}
+use super::error::Error;
 
-// The place of the first such byte, or the length of a text that has none.
-pub(crate) fn find(text: &[u8], byte: u8) -> usize
-    ensures within { result ≤ length text.now }
-    ensures before { (k : ℕ) → k < result → slice_index text.now k ≢ byte }
-    ensures found { result < length text.now → slice_index text.now result ≡ byte }
-{
-    for (i, b) in text.iter().enumerate() {
-        if *b == byte {
-            return i;
-        }
-    }
-    text.len()
-}
-
-// The text before the first space; nothing if it begins with one.
-pub(crate) fn first(line: &[u8]) -> &[u8] {
-    let end = find(line, b' ');
-    &line[0..end]
-}
-
-// The text after the first space.
-pub(crate) fn after(line: &[u8]) -> &[u8] {
-    let end = find(line, b' ');
-    if end < line.len() {
-        &line[end + 1..]
-    } else {
-        &line[end..]
+// The text before the first such byte, and after it; without one, all of it, and nothing. Slices have no `split_once`.
+pub(crate) fn parted(text: &[u8], byte: u8) -> (&[u8], &[u8]) {
+    match text.iter().position(|b| *b == byte) {
+        Some(place) => (&text[..place], &text[place + 1..]),
+        None => (text, &[]),
     }
 }
 
-// A number in decimal digits, six at most.
-pub(crate) fn number(word: &[u8]) -> Meaning {
-    if word.len() == 0 {
-        return Meaning::None;
-    }
-    let mut n: usize = 0;
-    let mut i: usize = 0;
-    while i < word.len() {
-        let d = digit(word[i]);
-        if 9 < d {
-            return Meaning::None;
-        }
-        if 99999 < n {
-            return Meaning::None;
-        }
-        n = 10 * n + d;
-        i += 1;
-    }
-    Meaning::Is(n)
+// A number in decimal digits: six at most, but for zeros before them. (`parse` takes a plus sign too.)
+pub(crate) fn number(word: &[u8]) -> Result<usize, Error> {
+    str::from_utf8(word)
+        .ok()
+        .and_then(|text| text.parse().ok())
+        .filter(|number| *number < 1_000_000 && !word.starts_with(b"+"))
+        .ok_or(Error::NotUnderstood)
 }
 
 // A byte in two hexadecimal digits.
-pub(crate) fn byte(word: &[u8]) -> Meaning {
-    if word.len() != 2 {
-        return Meaning::None;
+pub(crate) fn byte(word: &[u8]) -> Result<u8, Error> {
+    match word {
+        [high, low] => Ok(16 * digit(*high)? + digit(*low)?),
+        _ => Err(Error::NotUnderstood),
     }
-    let high = digit(word[0]);
-    let low = digit(word[1]);
-    if 15 < high || 15 < low {
-        return Meaning::None;
-    }
-    Meaning::Is(16 * high + low)
 }
 
-// What a hexadecimal digit stands for, or 16 if it is none.
-fn digit(character: u8) -> usize
-    ensures { result ≤ 16 }
+// What a hexadecimal digit stands for. (`to_digit` and `from_str_radix` take capitals too.)
+fn digit(character: u8) -> Result<u8, Error>
+    ensures { IfOk result (λ d. d < 16) }
 {
     match character {
-        b'0'..=b'9' => (character - b'0') as usize,
-        b'a'..=b'f' => (character - b'a') as usize + 10,
-        _ => 16,
+        b'0'..=b'9' => Ok(character - b'0'),
+        b'a'..=b'f' => Ok(character - b'a' + 10),
+        _ => Err(Error::NotUnderstood),
     }
 }

@@ -1,75 +1,53 @@
 // A case's bytes as code, run under its schedule.
 
-use super::buffer::{FRESH, all, show_later, untouched};
-use super::reading::{Meaning, after, first, number};
+use super::buffer::{FRESH, show_later, untouched};
+use super::case::Case;
+use super::error::Error;
+use super::reading::{number, parted};
 use super::show;
+use rules::End;
 use salnegris::{AnswerFields, salnegris_run};
 use std::io;
 
-// By the words `STATUS ROOM`, with a stack buffer of so many bytes: at most the 4,096 of document 01, and 16 more.
-pub(crate) fn run(
-    rt: &impl Print,
-    words: &[u8],
-    name: &[u8],
-    code: &[u8],
-    schedule: &[u8],
-) -> io::Result<bool> {
-    let Meaning::Is(status) = number(first(words)) else {
-        return Ok(false);
-    };
-    let Meaning::Is(room) = number(after(words)) else {
-        return Ok(false);
-    };
-    if 255 < status {
-        return Ok(false);
+impl Case<'_> {
+    // By the words `STATUS ROOM`, with a stack buffer of so many bytes: at most the 4,096 of document 01, and 16 more. It writes
+    // NAME: ANSWER steps S reached R, STACK.
+    pub(super) fn run(&self, rt: &impl Print, words: &[u8]) -> Result<(), Error> {
+        let (status, room) = parted(words, b' ');
+        let status = u8::try_from(number(status)?).map_err(|_| Error::NotUnderstood)?;
+        let room = number(room)?;
+        let mut longest = [FRESH; 4112];
+        let stack = longest.get_mut(..room).ok_or(Error::NotUnderstood)?;
+        let answer = salnegris_run(status, &self.bytes, &self.recalls, stack);
+        show::name(rt, self.name)?;
+        answered(rt, answer)?;
+        left(rt, stack)?;
+        println!(rt)?;
+        Ok(())
     }
-    if 4112 < room {
-        return Ok(false);
-    }
-    let mut stack = [FRESH; 4112];
-    line(rt, name, status as u8, code, schedule, &mut stack[0..room])?;
-    Ok(true)
 }
 
-// NAME: ANSWER steps S reached R, STACK.
-fn line(
-    rt: &impl Print,
-    name: &[u8],
-    status: u8,
-    code: &[u8],
-    schedule: &[u8],
-    stack: &mut [u8],
-) -> io::Result<()> {
-    show::text(rt, name)?;
-    show::text(rt, b": ")?;
-    answered(rt, salnegris_run(status, code, schedule, stack))?;
-    left(rt, stack)?;
-    show::text(rt, b"\n")
-}
-
-// "The kind of end (0 number, 1 throw, 2 refused)".
+// "The kind of end (0 number, 1 throw, 2 refused)", a number as the C interface has it.
 fn answered(rt: &impl Print, answer: AnswerFields) -> io::Result<()> {
-    let kind = answer.kind;
-    match kind {
-        0 => show::number(rt, answer.number)?,
-        1 => show::text(rt, b"throw")?,
-        _ => show::refused(rt, answer.refusal as u64, answer.place as u64)?,
+    match answer.kind {
+        0 => show::end(rt, End::Number(answer.number))?,
+        1 => show::end(rt, End::Throw)?,
+        _ => show::refused(rt, answer.refusal, answer.place as usize)?,
     }
-    show::text(rt, b" steps ")?;
-    show::count(rt, answer.steps as u64)?;
-    show::text(rt, b" reached ")?;
-    show::count(rt, answer.reached as u64)
+    print!(rt; " steps {} reached {}", answer.steps, answer.reached)
 }
 
 // "Refusals 7 to 12 write nothing. Otherwise the first 4,096 bytes of the stack buffer are zero afterwards and the rest is
 // untouched."
 fn left(rt: &impl Print, stack: &[u8]) -> io::Result<()> {
     if untouched(stack) {
-        return show::text(rt, b", stack untouched");
+        return print!(rt; ", stack untouched");
     }
-    if 4096 <= stack.len() && all(&stack[0..4096], 0) {
-        show::text(rt, b", stack zero")?;
-        return show_later(rt, &stack[4096..]);
+    match stack.split_at_checked(4096) {
+        Some((items, later)) if items.iter().all(|byte| *byte == 0) => {
+            print!(rt; ", stack zero")?;
+            show_later(rt, later)
+        }
+        _ => print!(rt; ", stack WRONG"),
     }
-    show::text(rt, b", stack WRONG")
 }

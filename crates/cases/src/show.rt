@@ -1,72 +1,45 @@
-// What is written of an answer, on standard output.
+// What is written of an answer, on standard output. No `Display`: one of ends and refusals would stand beside the types, in `rules`,
+// which writes nothing.
 
-use rules::{End, Outcome};
+use rules::{End, Refusal};
 use std::io;
 
-pub(crate) fn text(rt: &impl Print, bytes: &[u8]) -> io::Result<()> {
-    rt.write_all(bytes)
-}
-
-pub(crate) fn count(rt: &impl Print, n: u64) -> io::Result<()> {
-    rt.print(n)
+// The name of a case, which need not be UTF-8, before what is said of it.
+pub(crate) fn name(rt: &impl Print, name: &[u8]) -> io::Result<()> {
+    rt.write_all(name)?;
+    print!(rt; ": ")
 }
 
 // An end, or a refusal in place of it.
-pub(crate) fn outcome(rt: &impl Print, outcome: Outcome) -> io::Result<()> {
+pub(crate) fn outcome(rt: &impl Print, outcome: Result<End, Refusal>) -> io::Result<()> {
     match outcome {
-        Outcome::Ended(end) => match end {
-            End::Number(n) => number(rt, n),
-            End::Throw => text(rt, b"throw"),
-        },
-        Outcome::Refused(refusal) => {
-            let reason = refusal.reason;
-            refused(
-                rt,
-                numbers::reason::number_of(reason) as u64,
-                refusal.place as u64,
-            )
+        Ok(ended) => end(rt, ended),
+        Err(refusal) => {
+            let number = numbers::reason::number_of(refusal.reason);
+            refused(rt, number, refusal.place)
         }
     }
 }
 
-pub(crate) fn refused(rt: &impl Print, refusal: u64, place: u64) -> io::Result<()> {
-    text(rt, b"refused ")?;
-    count(rt, refusal)?;
-    text(rt, b" at ")?;
-    count(rt, place)
-}
-
-// A lane count, by its 32 bits: from 2^31 on they stand for 2^32 less (document 01, "What a recipe may end in").
-pub(crate) fn number(rt: &impl Print, n: i32) -> io::Result<()> {
-    text(rt, b"number ")?;
-    let bits = numbers::lanes::residue(n) as u64;
-    if bits < 2147483648 {
-        count(rt, bits)
-    } else {
-        text(rt, b"-")?;
-        count(rt, 4294967296 - bits)
+pub(crate) fn end(rt: &impl Print, end: End) -> io::Result<()> {
+    match end {
+        End::Number(n) => print!(rt; "number {n}"),
+        End::Throw => print!(rt; "throw"),
     }
 }
 
-// Bytes of code, one line an instruction.
-pub(crate) fn code(rt: &impl Print, bytes: &[u8]) -> io::Result<()> {
-    let mut i: usize = 0;
-    while i < bytes.len() {
-        code_byte(rt, bytes[i], i % 8)?;
-        i += 1;
-    }
-    Ok(())
+pub(crate) fn refused(rt: &impl Print, refusal: u32, place: usize) -> io::Result<()> {
+    print!(rt; "refused {refusal} at {place}")
 }
 
-// One of the eight bytes of an instruction.
-fn code_byte(rt: &impl Print, byte: u8, place: usize) -> io::Result<()> {
-    if place == 0 {
-        text(rt, b" ")?;
-    }
-    text(rt, b" ")?;
-    print!(rt; "{byte:02x}")?;
-    if place == 7 {
-        text(rt, b"\n")?;
+// Instructions of a code, a line each.
+pub(crate) fn code(rt: &impl Print, instructions: &[[u8; 8]]) -> io::Result<()> {
+    for instruction in instructions {
+        print!(rt; " ")?;
+        for byte in instruction {
+            print!(rt; " {byte:02x}")?;
+        }
+        println!(rt)?;
     }
     Ok(())
 }

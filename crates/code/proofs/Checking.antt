@@ -12,13 +12,13 @@ use Rattle.rules.specs.Checking.{answer_by, checked_by, check_answer}
 use Rattle.rules.specs.CodeBytes.{instruction_test, code_tests}
 use Rattle.rules.specs.Limits.{code_limit}
 use Rattle.rules.specs.Refusals.{unless, first_refusal, lowest_refusal}
-use Rattle.rules.specs.declared.Checked.TheVariants.{Refused}
 use Rattle.rules.specs.declared.Reason.TheVariants.{CodeSize}
+use Rattle.std.specs.Prelude.{Err}
 use Rattle.rules.proofs.Refusals.{first_only}
 
 module _ (code : List ℕ) where
   pub size_refused : whole_records code_limit code ≡ false
-      → check_answer code_tests code ≡ Refused (record { reason = CodeSize; place = 0 })
+      → check_answer code_tests code ≡ Err (record { reason = CodeSize; place = 0 })
   unfolding answer_by code_tests first_refusal unless
   size_refused e = rw e
 

@@ -5,14 +5,14 @@
 --   target_fits_at    test 12, by the opcode
 --
 -- Assumes nothing.
-use Rattle.std.specs.Prelude.{ℕ, Bool, List}
+use Rattle.std.specs.Prelude.{ℕ, Bool, List, Result, Ok, Err}
 use Rattle.rules.specs.Checking.{answer_by, row_passes}
 use Rattle.rules.specs.CodeBytes.{opcodes, instruction_at, operand_fits, target_fits, instruction_test}
-use Rattle.code.specs.declared.instruction.Reading.{Reading}
-use Rattle.code.specs.declared.instruction.Reading.TheVariants.{Sound, Refused}
+use Rattle.rules.specs.declared.Refusal.{Refusal}
+use Rattle.rules.specs.declared.Instruction.{Instruction}
 
-abbrev pub reading_at : List ℕ → ℕ → Reading
-reading_at code a = answer_by (instruction_test code a) Refused (Sound (instruction_at code a))
+abbrev pub reading_at : List ℕ → ℕ → Result Instruction Refusal
+reading_at code a = answer_by (instruction_test code a) Err (Ok (instruction_at code a))
 
 abbrev pub operand_fits_at : ℕ → ℕ → Bool
 operand_fits_at opcode word = row_passes opcodes (λ row. operand_fits row.operand word) opcode

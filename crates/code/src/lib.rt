@@ -3,34 +3,25 @@
 #![tactic(auto)]
 
 pub mod instruction;
+mod opcode;
 
 ghost use Rattle.std.specs.Prelude.{◌≡◌};
 ghost use Rattle.rules.specs.Checking.{check_answer};
 ghost use Rattle.rules.specs.CodeBytes.{code_tests};
 
-use instruction::Reading;
-use rules::{Checked, Reason, Refusal};
+use rules::{Reason, Refusal};
 
 // A code has at most 8,184 bytes, eight for each instruction.
 pub const INSTRUCTIONS: usize = 1023;
 
-// "9; then each instruction upward for 10, 11, 12."
-pub fn check(code: &[u8]) -> Checked
+// "9; then each instruction upward for 10, 11, 12." (The walk over a table counts uses on the way; one for both would ask more than
+// these three lines.)
+pub fn check(code: &[u8]) -> Result<usize, Refusal>
     ensures { result ≡ check_answer code_tests code.now }
 {
-    if !record::size::whole(code, INSTRUCTIONS) {
-        return Checked::Refused(Refusal {
-            reason: Reason::CodeSize,
-            place: 0,
-        });
+    let length = record::size::whole(code, INSTRUCTIONS).ok_or(Reason::CodeSize.at(0))?;
+    for a in 0..length {
+        instruction::read(code, a, length)?;
     }
-    let length = code.len() / 8;
-    let mut a: usize = 0;
-    while a < length {
-        if let Reading::Refused(refusal) = instruction::read(code, a, length) {
-            return Checked::Refused(refusal);
-        }
-        a += 1;
-    }
-    Checked::Accepted(length)
+    Ok(length)
 }

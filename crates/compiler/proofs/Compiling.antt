@@ -21,10 +21,6 @@ use Rattle.rules.specs.Limits.{record_bytes, instruction_limit}
 use Rattle.rules.specs.Recipe.{expression_at, recipe}
 use Rattle.rules.specs.Refusals.{unless, first_refusal}
 use Rattle.rules.specs.Table.{table_tests}
-use Rattle.rules.specs.declared.Checked.{Checked}
-use Rattle.rules.specs.declared.Checked.TheVariants.{Accepted}
-use Rattle.rules.specs.declared.Compiled.{Compiled}
-use Rattle.rules.specs.declared.Compiled.TheVariants.{Length, Refused}
 use Rattle.rules.specs.declared.Reason.TheVariants.{CodeBuffer}
 use Rattle.rules.specs.declared.Refusal.{Refusal}
 use Rattle.rules.proofs.Bytes.Answered.{compile_passed, compile_refused}
@@ -32,25 +28,26 @@ use Rattle.rules.proofs.Checking.{check_accepted, check_refused}
 use Rattle.rules.proofs.Refusals.{first_only, rows_passed, rows_refused}
 use Rattle.table.proofs.Acceptance.{last_node, last_recipe, recipe_short}
 use Rattle.compiler.specs.Walking.{Measurable, Emittable, Emitted}
+use Rattle.std.specs.Prelude.{Result, Ok, Err}
 use Rattle.compiler.proofs.Writing.{emitted_front}
 
 -- what is answered, and what is then in the buffer
-abbrev Answers : List ℕ → List ℕ → Compiled → List ℕ → Type 0
-Answers table code answer code' = (answer ≡ compile_answer table code) × (code' ≡ compile_leaves table code)
+abbrev Answers : List ℕ → List ℕ → Result ℕ Refusal → List ℕ → Type 0
+Answers table code answer code' = record { answer : answer ≡ compile_answer table code; leaves : code' ≡ compile_leaves table code }
 
 -- ---- refused
 
 module _ (table code : List ℕ) where
-  refused : {r : Refusal} → first_refusal (compile_tests table code) ≡ some r → Answers table code (Refused r) code
-  refused e = let (answer, leaves) = compile_refused table code e in (sym answer, sym leaves)
+  refused : {r : Refusal} → first_refusal (compile_tests table code) ≡ some r → Answers table code (Err r) code
+  refused e = let (answered, left) = compile_refused table code e in record { answer = sym answered; leaves = sym left }
 
-  pub table_refused : {r : Refusal} → check_answer table_tests table ≡ Checked.Refused r → Answers table code (Refused r) code
+  pub table_refused : {r : Refusal} → check_answer table_tests table ≡ Err r → Answers table code (Err r) code
   unfolding compile_tests
   table_refused e = refused (rows_refused (table_tests table) _ (check_refused table_tests table e))
 
 -- ---- accepted
 
-module _ (table : List ℕ) {n : ℕ} (answer : check_answer table_tests table ≡ Accepted n) where
+module _ (table : List ℕ) {n : ℕ} (answer : check_answer table_tests table ≡ Ok n) where
   length_recipe : code_length (expression_at table (n - 1)) ≡ code_length (recipe table)
   length_recipe = ap code_length (last_recipe table answer)
 
@@ -66,7 +63,7 @@ module _ (table : List ℕ) {n : ℕ} (answer : check_answer table_tests table �
 
   module _ (code : List ℕ) {size : ℕ} (measured : size ≡ code_length (expression_at table (n - 1))) where
     pub buffer_refused : length code < record_bytes * size
-        → Answers table code (Refused (record { reason = CodeBuffer; place = 0 })) code
+        → Answers table code (Err (record { reason = CodeBuffer; place = 0 })) code
     unfolding compile_tests unless
     buffer_refused short =
         refused table code
@@ -89,10 +86,11 @@ module _ (table : List ℕ) {n : ℕ} (answer : check_answer table_tests table �
           ∙ rw (le-leb (record_bytes * code_length (recipe table)) (length code) room)
 
       pub compiled : {next : ℕ} {code' : List ℕ} → Emitted table (n - 1) code 0 next code'
-          → Answers table code (Length size) code'
+          → Answers table code (Ok size) code'
       unfolding code_of
       compiled done =
-          let (answered, leaves) = compile_passed table code passed in (
-            ap Length (measured ∙ length_recipe) ∙ sym answered,
-            done.bytes ∙ rw (last_recipe table answer) (emitted_front code (recipe table) room ∙ sym leaves),
-          )
+          let (answered, left) = compile_passed table code passed in
+          record {
+            answer = ap Ok (measured ∙ length_recipe) ∙ sym answered;
+            leaves = done.bytes ∙ rw (last_recipe table answer) (emitted_front code (recipe table) room ∙ sym left);
+          }

@@ -39,7 +39,8 @@ emitted_length : {table : List ℕ} {j : ℕ} {code : List ℕ} {at next : ℕ} 
     → length code' ≡ length code
 emitted_length done = ap length done.bytes ∙ simp length-sets
 
-placed_length : {code : List ℕ} {a : ℕ} {x : Instruction} {code' : List ℕ} → Placed code a x code' → length code' ≡ length code
+placed_length : {code : List ℕ} {a : ℕ} {x : Instruction} {next : ℕ} {code' : List ℕ} → Placed code a x next code'
+    → length code' ≡ length code
 placed_length done = ap length done.bytes ∙ simp length-sets
 
 -- ---- a node that was read
@@ -78,7 +79,7 @@ module _ {table : List ℕ} {j t : ℕ} {code : List ℕ} {at : ℕ} where
     pub val_spot : (m : ℤ) → Placeable code at (Push m)
     val_spot m = spot here refl (omega arith) (omega arith)
 
-    pub val_emitted : {code₁ : List ℕ} → Placed code at (Push n) code₁ → Emitted table j code at (at + 1) code₁
+    pub val_emitted : {next : ℕ} {code₁ : List ℕ} → Placed code at (Push n) next code₁ → Emitted table j code at next code₁
     unfolding of_node
     val_emitted e = record { after = omega arith; bytes = e.bytes ∙ rw here.said.expression (emits_val code at n) }
 
@@ -86,7 +87,8 @@ module _ {table : List ℕ} {j t : ℕ} {code : List ℕ} {at : ℕ} where
     pub throw_spot : Placeable code at Instruction.Throw
     throw_spot = spot here refl (omega arith) (omega arith)
 
-    pub throw_emitted : {code₁ : List ℕ} → Placed code at Instruction.Throw code₁ → Emitted table j code at (at + 1) code₁
+    pub throw_emitted : {next : ℕ} {code₁ : List ℕ} → Placed code at Instruction.Throw next code₁
+        → Emitted table j code at next code₁
     unfolding of_node
     throw_emitted e = record { after = omega arith; bytes = e.bytes ∙ rw here.said.expression (emits_throw code at) }
 
@@ -105,7 +107,8 @@ module _ {table : List ℕ} {j t : ℕ} {code : List ℕ} {at left right : ℕ} 
         pub add_spot : Placeable code₂ end Instruction.Add
         add_spot = spot here (emitted_length second ∙ emitted_length first) (omega arith) (omega arith)
 
-        pub add_emitted : {code₃ : List ℕ} → Placed code₂ end Instruction.Add code₃ → Emitted table j code at (end + 1) code₃
+        pub add_emitted : {next : ℕ} {code₃ : List ℕ} → Placed code₂ end Instruction.Add next code₃
+            → Emitted table j code at next code₃
         unfolding of_node
         add_emitted e = record {
           after = omega arith;
@@ -121,16 +124,16 @@ module _ {table : List ℕ} {j t : ℕ} {code : List ℕ} {at left right : ℕ} 
       pub seqn_spot : Placeable code₁ middle Pop
       seqn_spot = spot here (emitted_length first) (omega arith) (omega arith)
 
-      module _ {code₂ : List ℕ} (pop : Placed code₁ middle Pop code₂) where
-        pub seqn_right : (right < t) × Emittable table right code₂ (middle + 1)
+      module _ {next : ℕ} {code₂ : List ℕ} (pop : Placed code₁ middle Pop next code₂) where
+        pub seqn_right : (right < t) × Emittable table right code₂ next
         seqn_right = part here here.operands.right_below (placed_length pop ∙ emitted_length first) (omega arith)
 
-        pub seqn_emitted : {end : ℕ} {code₃ : List ℕ} → Emitted table right code₂ (middle + 1) end code₃
+        pub seqn_emitted : {end : ℕ} {code₃ : List ℕ} → Emitted table right code₂ next end code₃
             → Emitted table j code at end code₃
         unfolding of_node
         seqn_emitted second = record {
           after = omega arith;
-          bytes = second.bytes ∙ rw (pop.bytes, first.bytes, here.said.expression)
+          bytes = second.bytes ∙ rw (pop.after, pop.bytes, first.bytes, here.said.expression)
               (emits_seqn code at _ _ middle first.after);
         }
 
@@ -146,12 +149,14 @@ module _ {table : List ℕ} {j t : ℕ} {code : List ℕ} {at left right : ℕ} 
         pub catch_mark : Placeable code₂ at (Mark (middle + 1))
         catch_mark = spot here (emitted_length second ∙ emitted_length first) (omega arith) (omega arith)
 
-        pub catch_unmark : {x : Instruction} {code₃ : List ℕ} → Placed code₂ at x code₃ → Placeable code₃ middle (Unmark end)
+        pub catch_unmark : {x : Instruction} {next : ℕ} {code₃ : List ℕ} → Placed code₂ at x next code₃
+            → Placeable code₃ middle (Unmark end)
         catch_unmark mark =
             spot here (placed_length mark ∙ emitted_length second ∙ emitted_length first) (omega arith) (omega arith)
 
-        module _ {code₃ : List ℕ} (mark : Placed code₂ at (Mark (middle + 1)) code₃) where
-          pub catch_emitted : {code₄ : List ℕ} → Placed code₃ middle (Unmark end) code₄ → Emitted table j code at end code₄
+        module _ {next : ℕ} {code₃ : List ℕ} (mark : Placed code₂ at (Mark (middle + 1)) next code₃) where
+          pub catch_emitted : {last : ℕ} {code₄ : List ℕ} → Placed code₃ middle (Unmark end) last code₄
+              → Emitted table j code at end code₄
           unfolding of_node
           catch_emitted e = record {
             after = omega arith;
@@ -166,17 +171,17 @@ module _ {table : List ℕ} {j t : ℕ} {code : List ℕ} {at left : ℕ} {node 
   pub scope_set : (i : Status) → Placeable code at (Set i)
   scope_set i = spot here refl (omega arith) (omega arith)
 
-  module _ {i : Status} {code₁ : List ℕ} (set : Placed code at (Set i) code₁) where
-    pub scope_left : (left < t) × Emittable table left code₁ (at + 1)
+  module _ {i : Status} {inner : ℕ} {code₁ : List ℕ} (set : Placed code at (Set i) inner code₁) where
+    pub scope_left : (left < t) × Emittable table left code₁ inner
     scope_left = part here one.left_below (placed_length set) (omega arith)
 
-    module _ {end : ℕ} {code₂ : List ℕ} (inner : Emitted table left code₁ (at + 1) end code₂) where
+    module _ {end : ℕ} {code₂ : List ℕ} (under : Emitted table left code₁ inner end code₂) where
       pub scope_reset : Placeable code₂ end Reset
-      scope_reset = spot here (emitted_length inner ∙ placed_length set) (omega arith) (omega arith)
+      scope_reset = spot here (emitted_length under ∙ placed_length set) (omega arith) (omega arith)
 
       pub scope_emitted : compile at (expression_at table j) ≡ Set i ∷ compile (at + 1) (expression_at table left) ++ (Reset ∷ [])
-          → {code₃ : List ℕ} → Placed code₂ end Reset code₃ → Emitted table j code at (end + 1) code₃
+          → {next : ℕ} {code₃ : List ℕ} → Placed code₂ end Reset next code₃ → Emitted table j code at next code₃
       scope_emitted said e = record {
         after = omega arith;
-        bytes = e.bytes ∙ rw (inner.bytes, set.bytes, said) (emits_scope code at i _ end inner.after);
+        bytes = e.bytes ∙ rw (under.bytes, set.after, set.bytes, said) (emits_scope code at i _ end (omega arith));
       }

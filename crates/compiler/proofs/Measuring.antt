@@ -3,7 +3,6 @@
 --   column_short       a node brings one or two instructions
 --   Measured           the first k nodes are added up
 --   measured_none      before the pass
---   measured_inside    the next node's record lies in the table
 --   measured_next      one node further
 --   measured_all       the sum is the code length of the last node's expression: "every node stands in the code once"
 --
@@ -11,18 +10,16 @@
 use Prim.Native.Nat.{ℕ, ◌+◌, ◌*◌, ◌-◌, ◌≤◌, ◌<◌}
 use native.Mathlib.Numerals.{add-one}
 use native.Mathlib.Omega.{arith}
-use lib.ListN.{length}
 use mathlib.Core.List.{List}
 use mathlib.Core.Path.{◌≡◌, refl, ap, sym, ◌∙◌}
 use Rattle.rules.specs.Bytes.{records}
 use Rattle.rules.specs.Code.{code_length}
-use Rattle.rules.specs.Limits.{record_bytes}
 use Rattle.rules.specs.Recipe.{expression_at, recipe}
 use Rattle.rules.specs.Table.{node_at}
 use Rattle.rules.specs.declared.Node.{Node}
 use Rattle.rules.specs.declared.Node.TheVariants.{Val, Throw, Add, Seqn, Catch, Block, Unblock}
 use Rattle.table.specs.Column.{column, column_sum}
-use Rattle.table.proofs.Acceptance.{record_inside, recipe_length}
+use Rattle.table.proofs.Acceptance.{recipe_length}
 use Rattle.compiler.specs.Walking.{Measurable}
 
 pub column_short : (node : Node) → column node ≤ 2
@@ -46,11 +43,6 @@ module _ {table : List ℕ} {j : ℕ} where
   measured_none here = record { measurable = here; inside = omega arith; sum = refl; short = omega arith }
 
   module _ {k total : ℕ} (so_far : Measured table j k total) where
-    pub measured_inside : k ≤ j → record_bytes * k + 7 < length table
-    measured_inside more =
-        let accepted = so_far.measurable.accepted in
-        record_inside (record { accepted = accepted; within = omega (arith, so_far.measurable.last) })
-
     pub measured_next : k ≤ j → Measured table j (k + 1) (total + column (node_at table k))
     unfolding column_sum
     measured_next more = record {

@@ -2,7 +2,7 @@
 --
 --   Measurable   the last node of an accepted table
 --   Placeable    there is room for an instruction at an address, and its target fits
---   Placed       it stands there
+--   Placed       it stands there, and the address after it is handed back
 --   Emittable    a node of an accepted table whose code fits the buffer from an address on
 --   Emitted      its code stands there, and the address after it is handed back
 --
@@ -25,7 +25,8 @@ pub record Placeable (code : List ℕ) (at : ℕ) (instruction : Instruction) : 
   pub room : record_bytes * at + 7 < length code
   pub target : target_of instruction < 2 ^ 32
 
-pub record Placed (code : List ℕ) (at : ℕ) (instruction : Instruction) (code' : List ℕ) : Type 0 where
+pub record Placed (code : List ℕ) (at : ℕ) (instruction : Instruction) (next : ℕ) (code' : List ℕ) : Type 0 where
+  pub after : next ≡ at + 1
   pub bytes : code' ≡ sets code (record_bytes * at) (instruction_bytes instruction)
 
 pub record Emittable (table : List ℕ) (j : ℕ) (code : List ℕ) (at : ℕ) : Type 0 where

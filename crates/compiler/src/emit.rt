@@ -1,4 +1,4 @@
-// The code of an expression, written into the lent buffer (document 01, "The code").
+// The code of an expression, written into the lent buffer (document 01, "The code"). The kinds of nodes are a closed list: a match.
 
 ghost use Rattle.compiler.specs.Walking.{Emittable, Emitted};
 
@@ -6,30 +6,24 @@ use super::place::place;
 use rules::{Instruction, Node, Status};
 
 // Of a node of an accepted table, from the address `at` on; the address after it. "The walk down an expression always reaches a
-// smaller node number." MARK and UNMARK are written once both operands are, when their targets are known.
+// smaller node number." MARK and UNMARK are written once both operands are, when their targets are known. So the code and an
+// address stay two arguments: a writer of both would have one address, and a Catch goes back to two others.
 pub(crate) fn emit(table: &[u8], j: usize, code: &mut [u8], at: usize) -> usize
     requires { Emittable table.now j code.old at }
     ensures { Emitted table.now j code.old at result code.new }
 {
     match table::node::at(table, j) {
-        Node::Val(n) => {
-            place(code, at, Instruction::Push(n));
-            at + 1
-        }
-        Node::Throw => {
-            place(code, at, Instruction::Throw);
-            at + 1
-        }
+        Node::Val(n) => place(code, at, Instruction::Push(n)),
+        Node::Throw => place(code, at, Instruction::Throw),
         Node::Add(left, right) => {
             let middle = emit(table, left, code, at);
             let end = emit(table, right, code, middle);
-            place(code, end, Instruction::Add);
-            end + 1
+            place(code, end, Instruction::Add)
         }
         Node::Seqn(left, right) => {
             let middle = emit(table, left, code, at);
-            place(code, middle, Instruction::Pop);
-            emit(table, right, code, middle + 1)
+            let next = place(code, middle, Instruction::Pop);
+            emit(table, right, code, next)
         }
         Node::Catch(left, right) => {
             let middle = emit(table, left, code, at + 1);
@@ -40,16 +34,14 @@ pub(crate) fn emit(table: &[u8], j: usize, code: &mut [u8], at: usize) -> usize
             end
         }
         Node::Block(left) => {
-            place(code, at, Instruction::Set(Status::Blocked));
-            let end = emit(table, left, code, at + 1);
-            place(code, end, Instruction::Reset);
-            end + 1
+            let inner = place(code, at, Instruction::Set(Status::Blocked));
+            let end = emit(table, left, code, inner);
+            place(code, end, Instruction::Reset)
         }
         Node::Unblock(left) => {
-            place(code, at, Instruction::Set(Status::Unblocked));
-            let end = emit(table, left, code, at + 1);
-            place(code, end, Instruction::Reset);
-            end + 1
+            let inner = place(code, at, Instruction::Set(Status::Unblocked));
+            let end = emit(table, left, code, inner);
+            place(code, end, Instruction::Reset)
         }
     }
 }

@@ -13,11 +13,9 @@ pub(crate) fn measure(table: &[u8], j: usize) -> usize
     requires { Measurable table.now j }
     ensures { result ≡ code_length (expression_at table.now j) }
 {
-    let mut length: usize = 0;
-    let mut k: usize = 0;
-    while k <= j {
+    let mut length = 0;
+    for k in 0..=j {
         length += instructions(table::node::at(table, k));
-        k += 1;
     }
     length
 }

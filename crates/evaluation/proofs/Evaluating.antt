@@ -14,14 +14,12 @@ use Rattle.rules.specs.Evaluating.{evaluate_answer}
 use Rattle.rules.specs.Evaluation.{quiet}
 use Rattle.rules.specs.Recipe.{expression_at}
 use Rattle.rules.specs.Table.{operands_of, table_tests}
-use Rattle.rules.specs.declared.Checked.TheVariants.{Accepted, Refused}
 use Rattle.rules.specs.declared.Node.{Node}
-use Rattle.rules.specs.declared.Outcome.{Outcome}
-use Rattle.rules.specs.declared.Outcome.TheVariants.{Ended}
 use Rattle.rules.specs.declared.Refusal.{Refusal}
 use Rattle.rules.proofs.Bytes.Answered.{evaluate_passed, evaluate_refused}
 use Rattle.rules.proofs.Checking.{check_accepted, check_refused}
 use Rattle.table.specs.Acceptance.{AcceptedNode, Says}
+use Rattle.std.specs.Prelude.{Ok, Err}
 use Rattle.table.proofs.Acceptance.{node_below, one_below, both_below, last_recipe}
 
 -- ---- a node and its operands
@@ -43,9 +41,9 @@ module _ {table : List ℕ} {j t : ℕ} {node : Node} (here : (j ≡ t) × Accep
 -- ---- the answer
 
 module _ (table : List ℕ) where
-  pub accepted_ends : {n : ℕ} → check_answer table_tests table ≡ Accepted n
-      → Ended (quiet (expression_at table (n - 1))) ≡ evaluate_answer table
+  pub accepted_ends : {n : ℕ} → check_answer table_tests table ≡ Ok n
+      → Ok (quiet (expression_at table (n - 1))) ≡ evaluate_answer table
   accepted_ends e = rw (evaluate_passed table (check_accepted table_tests table e).0, last_recipe table e)
 
-  pub refused_answers : {r : Refusal} → check_answer table_tests table ≡ Refused r → Outcome.Refused r ≡ evaluate_answer table
+  pub refused_answers : {r : Refusal} → check_answer table_tests table ≡ Err r → Err r ≡ evaluate_answer table
   refused_answers e = rw (evaluate_refused table (check_refused table_tests table e))

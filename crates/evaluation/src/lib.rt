@@ -1,4 +1,5 @@
-// The end of a recipe that no recall strikes, straight from its table (document 01, "What a recipe may end in").
+// The end of a recipe that no recall strikes, straight from its table (document 01, "What a recipe may end in"). The kinds of nodes
+// are a closed list: a match.
 
 #![tactic(auto)]
 
@@ -8,16 +9,14 @@ ghost use Rattle.rules.specs.Evaluation.{quiet};
 ghost use Rattle.rules.specs.Recipe.{expression_at};
 ghost use Rattle.table.specs.Acceptance.{AcceptedNode};
 
-use rules::{Checked, End, Node, Outcome};
+use rules::{End, Node, Refusal};
 
 // The end, or the refusal of the tests 1 to 5.
-pub fn evaluate(table: &[u8]) -> Outcome
+pub fn evaluate(table: &[u8]) -> Result<End, Refusal>
     ensures { result ≡ evaluate_answer table.now }
 {
-    match table::check(table) {
-        Checked::Accepted(nodes) => Outcome::Ended(end_of(table, nodes - 1)),
-        Checked::Refused(r) => Outcome::Refused(r),
-    }
+    let nodes = table::check(table)?;
+    Ok(end_of(table, nodes - 1))
 }
 
 // Of a node of an accepted table. "The walk down an expression always reaches a smaller node number."

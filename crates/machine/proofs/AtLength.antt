@@ -15,11 +15,11 @@ use Rattle.rules.specs.Machine.{Over, at_length, with_number, with_nothing, no_r
 use Rattle.rules.specs.declared.End.{End}
 use Rattle.rules.specs.declared.Item.{Item}
 use Rattle.rules.specs.declared.Item.TheVariants.{Number, Handler, Saved}
-use Rattle.rules.specs.declared.Outcome.TheVariants.{Ended, Refused}
 use Rattle.machine.specs.Items.{item_at, items_of}
 use Rattle.machine.specs.States.{state_of}
 use Rattle.machine.specs.declared.state.Machine.{Machine}
 use Rattle.machine.proofs.Stacked.{length_items_of}
+use Rattle.std.specs.Prelude.{Ok, Err}
 use Rattle.machine.proofs.Others.{NoNumber, not_number}
 
 not_one_item : {A : Type 0} (items : List Item) (otherwise : A) (f : ℤ → A) → (length items ≡ 1 → ⊥)
@@ -31,18 +31,18 @@ not_one_item (Number n ∷ x ∷ rest) otherwise f many = refl
 not_one_item (Handler h ∷ rest) otherwise f many = refl
 not_one_item (Saved i ∷ rest) otherwise f many = refl
 
-module _ (stack : List ℕ) (m : Machine) where
+module _ (a : ℕ) (stack : List ℕ) (m : Machine) where
   pub one_number : m.height ≡ 1 → {n : ℤ} → Number n ≡ item_at stack 0
-      → Over (Ended (End.Number n)) ≡ at_length (state_of stack m) m.address
+      → Over (Ok (End.Number n)) ≡ at_length (state_of stack m) a
   unfolding at_length items_of with_number with_nothing
   one_number one e = rw (one, ← e)
 
   pub one_other : m.height ≡ 1 → {x : Item} → x ≡ item_at stack 0 → NoNumber x
-      → Over (Refused (no_rule m.address)) ≡ at_length (state_of stack m) m.address
+      → Over (Err (no_rule a)) ≡ at_length (state_of stack m) a
   unfolding at_length items_of
   one_other one e other = rw (one, ← e) (sym (not_number _ _ _ _ other))
 
-  pub not_one : (m.height ≡ 1 → ⊥) → Over (Refused (no_rule m.address)) ≡ at_length (state_of stack m) m.address
+  pub not_one : (m.height ≡ 1 → ⊥) → Over (Err (no_rule a)) ≡ at_length (state_of stack m) a
   unfolding at_length
   not_one many =
       sym (not_one_item (items_of stack m.height) _ _ (λ e. many (omega (arith, e, length_items_of stack m.height))))

@@ -10,7 +10,7 @@
 --   EachState   a step leads from one of the rules' states to the next
 --   EachStep    the page of the machine: what one step promises
 --   Underway    a run, followed from state to state
---   Turns       the turns of the run's loops
+--   Turns       the turns of the run's loop
 --   Answering   what running answers and leaves, by its tests
 pub mod Answering
 pub mod AtLength

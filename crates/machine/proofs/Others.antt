@@ -1,4 +1,4 @@
--- An item that is not of the kind looked for, as a `let .. else` leaves it: what is done otherwise is done.
+-- An item that is not of the kind looked for, as the last arm of a match has it: what is done otherwise is done.
 --
 --   NoNumber, NoHandler, NoSaved         it is none of that kind
 --   not_number, not_handler, not_saved   of the top item

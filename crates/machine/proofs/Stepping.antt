@@ -1,6 +1,7 @@
 -- A step of the machine is by the rule for what it does: at an instruction of its code, or unwinding with an item.
 --
---   ready, unwindable   what it asks of a machine that runs, and of one that unwinds
+--   or_else_unwinds     a machine that does not run unwinds
+--   ready               what carrying out asks of a machine that runs
 --   unwound             unwinding: an item is removed
 --   cut                 running: a recall that bites
 --   carried_out         without one, what is done is what the instruction's rule says
@@ -11,45 +12,46 @@
 use Prim.Native.Nat.{ℕ, ◌≤◌}
 use native.Mathlib.Omega.{arith}
 use lib.ListN.{length, get_elem?}
-use mathlib.Core.Bool.{Bool, true, false}
+use mathlib.Core.Bool.{true, false}
 use mathlib.Core.List.{List}
-use mathlib.Core.Path.{◌≡◌, refl, sym, ◌∙◌}
+use mathlib.Core.Path.{◌≡◌, refl, sym, ap, ◌∙◌}
+use Rattle.std.specs.Prelude.{Result, Ok}
 use Rattle.rules.specs.CodeBytes.{instruction_at, instructions}
 use Rattle.rules.specs.Limits.{item_limit}
 use Rattle.rules.specs.Machine.{execute, cuts, at_instruction, step_at, step_in, step, unwind}
 use Rattle.rules.specs.Schedule.{asks}
 use Rattle.rules.specs.declared.Instruction.{Instruction}
 use Rattle.rules.specs.declared.Instruction.TheVariants.{Throw}
+use Rattle.rules.specs.declared.Reason.{Reason}
 use Rattle.rules.proofs.Step.Counted.{Counted, instruction_counted, unwound_counted}
 use Rattle.rules.proofs.Bytes.Instructions.{instruction_found}
 use Rattle.machine.specs.Items.{items_of}
-use Rattle.machine.specs.States.{state_of, step_of, onward_of, Ready, Unwindable, AtInstruction, HasStep, Steppable}
+use Rattle.machine.specs.States.{state_of, step_of, place_of, thrown_of, Ready, AtInstruction, HasStep, Steppable}
 use Rattle.machine.specs.States.{Carries, Steps, Unwinds}
 use Rattle.machine.specs.declared.state.Machine.{Machine}
-use Rattle.machine.specs.declared.step.Step.{Step}
-use Rattle.machine.specs.declared.step.Step.TheVariants.{Next}
+use Rattle.machine.specs.declared.state.Mode.{Mode}
+use Rattle.machine.specs.declared.state.Mode.TheVariants.{Running, Unwinding}
 use Rattle.machine.proofs.Stacked.{length_items_of}
 
 -- ---- the rule, by what the machine does
 
 module _ (code schedule stack : List ℕ) (m : Machine) where
-  pub step_running : m.unwinding ≡ false
+  pub step_running : {a : ℕ} → m.mode ≡ Running a
       → step (instructions code) (asks schedule) (state_of stack m)
-      ≡ step_at (asks schedule) (state_of stack m) m.address (get_elem? (instructions code) m.address)
+      ≡ step_at (asks schedule) (state_of stack m) a (get_elem? (instructions code) a)
   unfolding step step_in
   step_running e = rw e
 
-  pub step_unwinding : m.unwinding ≡ true
+  pub step_unwinding : m.mode ≡ Unwinding
       → step (instructions code) (asks schedule) (state_of stack m) ≡ unwind (state_of stack m) (items_of stack m.height)
   unfolding step step_in
   step_unwinding e = rw e
 
-  at_its_instruction : m.unwinding ≡ false → AtInstruction code m
+  at_its_instruction : {a : ℕ} → m.mode ≡ Running a → AtInstruction code a
       → step (instructions code) (asks schedule) (state_of stack m)
-      ≡ at_instruction (asks schedule) (state_of stack m) m.address (instruction_at code m.address)
+      ≡ at_instruction (asks schedule) (state_of stack m) a (instruction_at code a)
   unfolding step_at
-  at_its_instruction running here =
-      step_running running ∙ rw (instruction_found code m.address here.below, step_at)
+  at_its_instruction {a} running here = step_running running ∙ rw (instruction_found code a here.below, step_at)
 
   -- ---- what it counts
 
@@ -60,55 +62,49 @@ module _ (code schedule stack : List ℕ) (m : Machine) where
     few : length (items_of stack m.height) ≤ item_limit
     few = omega (arith, height, length_items_of stack m.height)
 
-    by_flag : (flag : Bool) → m.unwinding ≡ flag → One
-    by_flag false e =
-        rw (at_its_instruction e (has.running e))
-        (instruction_counted (state_of stack m) few (asks schedule) m.address (instruction_at code m.address))
-    by_flag true e =
+    by_mode : (mode : Mode) → m.mode ≡ mode → One
+    by_mode (Running a) e =
+        rw (at_its_instruction e (has.running a e))
+        (instruction_counted (state_of stack m) few (asks schedule) a (instruction_at code a))
+    by_mode Unwinding e =
         rw (step_unwinding e)
         (unwound_counted (state_of stack m) (items_of stack m.height)
         (omega (arith, has.unwinding e, length_items_of stack m.height))
         few)
 
     pub counted : One
-    counted = by_flag m.unwinding refl
+    counted = by_mode m.mode refl
 
 -- ---- what is done
 
--- THROW carried out, or an instruction cut
-abbrev pub unwinds : Machine → Machine
-unwinds m = onward_of m true m.address m.status m.height
+pub or_else_unwinds : (mode : Mode) → ((a : ℕ) → mode ≡ Running a → ⊥) → mode ≡ Unwinding
+or_else_unwinds (Running a) none = absurd (none a refl)
+or_else_unwinds Unwinding none = refl
 
-pub thrown : (stack : List ℕ) (m : Machine) → Carries Throw stack m (Next (unwinds m)) stack
+pub thrown : (a : ℕ) (stack : List ℕ) (m : Machine) → Carries Throw a stack m (Ok (thrown_of m)) stack
 unfolding execute step_of
-thrown stack m = record { ruled = refl; beyond = refl }
+thrown a stack m = refl
 
-module _ {code stack : List ℕ} {m : Machine} (can : Steppable code stack m) where
-  module _ (unwinding : m.unwinding ≡ true) where
-    pub unwindable : Unwindable stack m
-    unwindable = record { within = can.within; some = can.has.unwinding unwinding }
+module _ {code : List ℕ} {m : Machine} (can : Steppable code m) where
+  pub ready : {a : ℕ} → m.mode ≡ Running a → Ready a m
+  ready {a} running = record { within = can.within; limit = (can.has.running a running).limit }
 
-    pub unwound : (schedule : List ℕ) {next : Machine} → Unwinds stack m next → Steps code schedule stack m (Next next) stack
+  module _ (schedule stack : List ℕ) where
+    pub unwound : m.mode ≡ Unwinding → (next : Machine) → Unwinds stack m next → Steps code schedule stack m (Ok next) stack
     unfolding step_of
-    unwound schedule e = record { ruled = sym (step_unwinding code schedule stack m unwinding ∙ e); beyond = refl }
+    unwound unwinding next e = sym (step_unwinding code schedule stack m unwinding ∙ e)
 
-  module _ (running : m.unwinding ≡ false) where
-    pub here : AtInstruction code m
-    here = can.has.running running
+    module _ {a : ℕ} (running : m.mode ≡ Running a) where
+      rule : step (instructions code) (asks schedule) (state_of stack m)
+          ≡ at_instruction (asks schedule) (state_of stack m) a (instruction_at code a)
+      rule = at_its_instruction code schedule stack m running (can.has.running a running)
 
-    pub ready : Ready stack m
-    ready = record { within = can.within; address = here.limit }
-
-    module _ (schedule : List ℕ) where
-      pub cut : true ≡ cuts m.status (asks schedule m.reached) → Steps code schedule stack m (Next (unwinds m)) stack
+      pub cut : true ≡ cuts m.status (asks schedule m.reached) → Steps code schedule stack m (Ok (thrown_of m)) stack
       unfolding at_instruction step_of
-      cut e = record { ruled = sym (at_its_instruction code schedule stack m running here ∙ rw (← e)); beyond = refl }
+      cut e = sym (rule ∙ rw (← e))
 
-      pub carried_out : false ≡ cuts m.status (asks schedule m.reached) → {x : Instruction}
-          → x ≡ instruction_at code m.address
-          → {r : Step} {after : List ℕ} → Carries x stack m r after → Steps code schedule stack m r after
+      pub carried_out : false ≡ cuts m.status (asks schedule m.reached) → {x : Instruction} → x ≡ instruction_at code a
+          → (r : Result Machine Reason) (after : List ℕ) → Carries x a stack m r after → Steps code schedule stack m r after
       unfolding at_instruction
-      carried_out e f does = record {
-        ruled = does.ruled ∙ sym (at_its_instruction code schedule stack m running here ∙ rw (← e, ← f));
-        beyond = does.beyond;
-      }
+      carried_out e f r after does =
+          rw (ap place_of running) (does ∙ sym (rule ∙ rw (← e, ← f)))

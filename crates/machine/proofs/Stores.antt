@@ -7,7 +7,6 @@
 --   item_below       an item below is as it was
 --   items_below      so are all the items below
 --   items_over       the item stands over those below
---   beyond_same      what lies past the stack's bytes has not moved
 --   tagged_number    tag 0 with a number's residue says the number
 --   stored           all of it: the item was put
 --
@@ -15,7 +14,7 @@
 use Prim.Native.Nat.{ℕ, zero, suc, ◌+◌, ◌*◌, ◌^◌, ◌≤◌, ◌<◌}
 use native.Mathlib.Omega.{arith}
 use lib.IntN.{ℤ}
-use lib.ListN.{length, drop}
+use lib.ListN.{length}
 use lib.Seq.{sets}
 use mathlib.Core.List.{List, ◌∷◌}
 use mathlib.Core.Path.{◌≡◌, refl, sym, ap, ◌∙◌}
@@ -29,7 +28,7 @@ use Rattle.rules.specs.Number.{residue}
 use Rattle.rules.specs.declared.Item.{Item}
 use Rattle.rules.specs.declared.Item.TheVariants.{Number}
 use Rattle.rules.proofs.Bytes.Records.{word_whole}
-use Rattle.rules.proofs.Stores.{sets_below, sets_at, drop_sets}
+use Rattle.rules.proofs.Stores.{sets_below, sets_at}
 use Rattle.numbers.proofs.Signed.{signed_to_z, residue_of_z}
 use Rattle.machine.specs.Items.{item_tagged, item_at, items_of, Stored}
 
@@ -102,24 +101,15 @@ module _ (stack : List ℕ) (k tag operand : ℕ) (room : record_bytes * k + 7 <
       let all : k ≤ k = omega arith in
       rw next (rw (item_same h, items_below k all))
 
-beyond_same : (stack : List ℕ) (k tag operand : ℕ) → k < item_limit
-    → drop stack_bytes (recorded stack k tag operand) ≡ drop stack_bytes stack
-beyond_same stack k tag operand h =
-    let below : record_bytes * k + length (instruction_record tag operand) ≤ stack_bytes = simp length_record (omega arith) in
-    drop_sets stack_bytes stack (record_bytes * k) (instruction_record tag operand) below
-
 -- ---- an item put
 
 pub tagged_number : {n : ℤ} → SFits w32 n → item_tagged 0 (residue n) ≡ Number n
 unfolding item_tagged
 tagged_number fits = ap Number (sym (signed_to_z _) ∙ rw (← residue_of_z fits) (to_z-of_z fits))
 
-pub stored : {stack : List ℕ} {k : ℕ} {item : Item} {after : List ℕ} (tag operand : ℕ)
-    → stack_bytes ≤ length stack → k < item_limit → operand < 2 ^ 32
-    → item_tagged tag operand ≡ item → after ≡ recorded stack k tag operand → Stored stack k item after
-stored {stack} {k} {item} {after} tag operand room place small said e =
-    let inside : record_bytes * k + 7 < length stack = omega arith in
-    record {
-      items = rw (e, items_over stack k tag operand inside small, said);
-      beyond = rw e (beyond_same stack k tag operand place);
-    }
+module _ (stack : List ℕ) (k : ℕ) (item : Item) (after : List ℕ) where
+  pub stored : (tag operand : ℕ) → length stack ≡ stack_bytes → k < item_limit → operand < 2 ^ 32
+      → item_tagged tag operand ≡ item → after ≡ recorded stack k tag operand → Stored stack k item after
+  stored tag operand room place small said e =
+      let inside : record_bytes * k + 7 < length stack = omega (arith, room) in
+      rw (e, items_over stack k tag operand inside small, said)

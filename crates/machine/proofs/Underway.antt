@@ -2,7 +2,6 @@
 --
 --   Underway         so it is, and the counts and the items are within their limits
 --   underway_fresh   at the beginning
---   Onward           from one state to a later one, whatever the run began with
 --   goes_on          after a step that is taken
 --   Stops            the answer of the whole run, and the state that it is left in
 --   ended, refused, out_of_steps
@@ -12,17 +11,14 @@
 use Prim.Native.Nat.{ℕ, suc, ◌-◌, ◌≤◌, ◌<◌}
 use native.Mathlib.Decide.{dec_lt}
 use native.Mathlib.Omega.{arith}
-use lib.ListN.{length, drop}
 use mathlib.Core.List.{List}
 use mathlib.Core.Option.{none, some}
-use mathlib.Core.Path.{◌≡◌, refl, sym, ◌∙◌}
+use mathlib.Core.Path.{◌≡◌, sym, ◌∙◌}
 use Rattle.rules.specs.CodeBytes.{instructions}
-use Rattle.rules.specs.Limits.{item_limit, stack_bytes}
+use Rattle.rules.specs.Limits.{item_limit}
 use Rattle.rules.specs.Machine.{State, fresh, Over, Stuck, step}
 use Rattle.rules.specs.Run.{answer, too_many_steps, run, next_of, state_after}
 use Rattle.rules.specs.Schedule.{asks}
-use Rattle.rules.specs.declared.Outcome.{Outcome}
-use Rattle.rules.specs.declared.Outcome.TheVariants.{Refused}
 use Rattle.rules.specs.declared.Refusal.{Refusal}
 use Rattle.rules.specs.declared.Status.{Status}
 use Rattle.rules.proofs.Step.Counted.{run_limit}
@@ -30,42 +26,35 @@ use Rattle.rules.proofs.Step.Order.{run_stuck, run_over}
 use Rattle.rules.proofs.Step.States.{same_state, none_later, run_from}
 use Rattle.machine.specs.States.{state_of, fresh_of, HasStep, Steps}
 use Rattle.machine.specs.declared.state.Machine.{Machine}
-use Rattle.machine.specs.declared.step.Step.TheVariants.{Next}
 use Rattle.machine.proofs.EachState.{Holds, begins, counts_one, each_state}
 use Rattle.machine.proofs.Stacked.{length_items_of}
+use Rattle.std.specs.Prelude.{Result, Ok, Err}
 use Rattle.machine.proofs.Stepping.{counted}
+use Rattle.rules.specs.declared.End.{End}
 
 -- of a run of at most so many steps
-pub record Underway (i : Status) (code schedule : List ℕ) (most : ℕ) (stack₀ stack : List ℕ) (m : Machine) : Type 0 where
+pub record Underway (i : Status) (code schedule : List ℕ) (most : ℕ) (stack : List ℕ) (m : Machine) : Type 0 where
   pub steps : m.steps ≤ most
   pub reached : m.reached ≤ m.steps
   pub height : m.height ≤ item_limit
   pub state : Holds i code schedule stack m
-  pub size : length stack ≡ length stack₀
-  pub beyond : drop stack_bytes stack ≡ drop stack_bytes stack₀
 
 pub underway_fresh : (i : Status) (code schedule : List ℕ) (most : ℕ) (stack : List ℕ)
-    → Underway i code schedule most stack stack (fresh_of i)
+    → Underway i code schedule most stack (fresh_of i)
 underway_fresh i code schedule most stack = record {
   steps = omega arith;
   reached = omega arith;
   height = omega arith;
   state = begins i code schedule stack;
-  size = refl;
-  beyond = refl;
 }
 
-pub record Onward (code schedule : List ℕ) (most : ℕ) (stack₀ stack : List ℕ) (start m : Machine) : Type 0 where
-  pub later : start.steps ≤ m.steps
-  pub underway : (i : Status) (first : List ℕ) → Underway i code schedule most first stack₀ start
-      → Underway i code schedule most first stack m
-
-pub record Stops (i : Status) (code schedule : List ℕ) (most : ℕ) (stack : List ℕ) (m : Machine) (o : Outcome) : Type 0 where
+pub record Stops (i : Status) (code schedule : List ℕ) (most : ℕ) (stack : List ℕ) (m : Machine)
+    (o : Result End Refusal) : Type 0 where
   pub answered : answer (state_of stack m) o ≡ run (instructions code) (asks schedule) most (fresh i)
   pub state : (s : State) → state_after (instructions code) (asks schedule) i most ≡ some s → state_of stack m ≡ s
 
-module _ {i : Status} {code schedule : List ℕ} {most : ℕ} {stack₀ stack : List ℕ} {m : Machine}
-    (so_far : Underway i code schedule most stack₀ stack m) where
+module _ {i : Status} {code schedule : List ℕ} {most : ℕ} {stack : List ℕ} {m : Machine}
+    (so_far : Underway i code schedule most stack m) where
   what_is_left : run (instructions code) (asks schedule) (most - m.steps) (state_of stack m)
       ≡ run (instructions code) (asks schedule) most (fresh i)
   what_is_left =
@@ -94,7 +83,7 @@ module _ {i : Status} {code schedule : List ℕ} {most : ℕ} {stack₀ stack : 
     | no all ↦ the_state (omega (arith, all, so_far.steps)) s at
   ]
 
-  pub ended : {o : Outcome} → step (instructions code) (asks schedule) (state_of stack m) ≡ Over o
+  pub ended : {o : Result End Refusal} → step (instructions code) (asks schedule) (state_of stack m) ≡ Over o
       → Stops i code schedule most stack m o
   unfolding next_of
   ended e = record {
@@ -104,7 +93,7 @@ module _ {i : Status} {code schedule : List ℕ} {most : ℕ} {stack₀ stack : 
 
   -- what a refused step leaves on the stack does not matter
   pub refused : (m.steps ≡ most → ⊥) → (after : List ℕ) {r : Refusal}
-      → step (instructions code) (asks schedule) (state_of stack m) ≡ Stuck r → Stops i code schedule most after m (Refused r)
+      → step (instructions code) (asks schedule) (state_of stack m) ≡ Stuck r → Stops i code schedule most after m (Err r)
   unfolding next_of
   refused left after e =
       let more : most - m.steps ≡ suc (most - m.steps - 1) = omega (arith, left, so_far.steps) in
@@ -126,18 +115,15 @@ module _ {i : Status} {code schedule : List ℕ} {most : ℕ} {stack₀ stack : 
           state = the_state e;
         }
 
-    pub goes_on : (m.steps ≡ most → ⊥) → {after : List ℕ} {next : Machine} → length after ≡ length stack
-        → Steps code schedule stack m (Next next) after
-        → (m.steps < next.steps) × Underway i code schedule most stack₀ after next
-    goes_on left {after} {next} size does =
-        let counts = counts_one has so_far.height schedule does in (
+    pub goes_on : (m.steps ≡ most → ⊥) → (after : List ℕ) (next : Machine) → Steps code schedule stack m (Ok next) after
+        → (m.steps < next.steps) × Underway i code schedule most after next
+    goes_on left after next does =
+        let counts = counts_one has so_far.height schedule stack after next does in (
           omega (arith, counts.steps),
           record {
             steps = omega (arith, counts.steps, left, so_far.steps);
             reached = omega (arith, counts.steps, counts.reached, so_far.reached);
             height = omega (arith, counts.items, length_items_of after next.height);
-            state = each_state has so_far.height schedule does i so_far.state;
-            size = size ∙ so_far.size;
-            beyond = does.beyond ∙ so_far.beyond;
+            state = each_state has so_far.height schedule stack after next does i so_far.state;
           },
         )

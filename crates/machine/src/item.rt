@@ -1,14 +1,19 @@
-// The items of the stack, eight bytes each in the lent stack buffer: a tag, three zero bytes and an operand. A saved status is
-// told by the tag alone.
+// The items of the stack, eight bytes each in the front of the lent stack buffer: a tag, three zero bytes and an operand. A saved
+// status is told by the tag alone.
 
-ghost use Rattle.std.specs.Prelude.{◌≡◌, ◌+◌, ◌*◌, ◌<◌, length};
+ghost use Rattle.std.specs.Prelude.{◌≡◌, ◌<◌};
+ghost use Rattle.rules.specs.Limits.{item_limit};
 ghost use Rattle.machine.specs.Items.{item_at, Storable, Stored};
 
+use super::state::Machine;
 use rules::{Item, Status};
 
+// The bytes of the buffer that the items stand in. What lies past them is not lent to a step.
+pub(crate) type Stack = [u8; Machine::STACK_BYTES];
+
 // The item at this place, counted from the bottom.
-pub(crate) fn at(stack: &[u8], k: usize) -> Item
-    requires { 8 * k + 7 < length stack.now }
+pub(crate) fn at(stack: &Stack, k: usize) -> Item
+    requires { k < item_limit }
     ensures { result ≡ item_at stack.now k }
 {
     let base = 8 * k;
@@ -22,8 +27,8 @@ pub(crate) fn at(stack: &[u8], k: usize) -> Item
 }
 
 // An item put at this place.
-pub(crate) fn put(stack: &mut [u8], k: usize, item: Item)
-    requires { Storable stack.old k item }
+pub(crate) fn put(stack: &mut Stack, k: usize, item: Item)
+    requires { Storable k item }
     ensures { Stored stack.old k item stack.new }
 {
     let base = 8 * k;

@@ -12,9 +12,10 @@ mod steps;
 mod unwind;
 
 ghost use Rattle.std.specs.Prelude.{◌≡◌};
-ghost use Rattle.rules.specs.Running.{refused_answer, run_answer, run_leaves};
+ghost use Rattle.rules.specs.Running.{run_answer, run_leaves};
+ghost use Rattle.machine.specs.Runs.{tried_answer};
 
-use rules::{Answer, Checked, Outcome, Reason, Refusal};
+use rules::{Answer, Reason, Refusal, Status};
 use state::Machine;
 
 // "Running tests 7, 8, 9; then each instruction upward for 10, 11, 12; then it runs." Refused by these it writes nothing; else
@@ -23,41 +24,26 @@ pub fn run(status: u8, code: &[u8], schedule: &[u8], stack: &mut [u8]) -> Answer
     ensures answer { result ≡ run_answer status code.now schedule.now stack.old }
     ensures leaves { stack.new ≡ run_leaves status code.now stack.old }
 {
-    if 1 < status {
-        return refused(Refusal {
-            reason: Reason::Status,
-            place: 0,
-        });
-    }
-    if stack.len() < Machine::STACK_BYTES {
-        return refused(Refusal {
-            reason: Reason::StackBuffer,
-            place: 0,
-        });
-    }
-    match code::check(code) {
-        Checked::Accepted(_) => {
-            let stopped = steps::repeat(
-                numbers::status::of_number(status as u32),
-                code,
-                schedule,
-                stack,
-                Machine::STEPS,
-            );
-            record::field::clear(stack, Machine::STACK_BYTES);
-            stopped.answer()
-        }
-        Checked::Refused(refusal) => refused(refusal),
+    match tried(status, code, schedule, stack) {
+        Ok(answer) => answer,
+        // "All others report 0."
+        Err(refusal) => Answer {
+            outcome: Err(refusal),
+            steps: 0,
+            reached: 0,
+        },
     }
 }
 
-// "All others report 0."
-fn refused(refusal: Refusal) -> Answer
-    ensures { result ≡ refused_answer refusal }
+// The tests 7 to 12, and the answer of the run where they pass.
+fn tried(status: u8, code: &[u8], schedule: &[u8], stack: &mut [u8]) -> Result<Answer, Refusal>
+    ensures answer { result ≡ tried_answer status code.now schedule.now stack.old }
+    ensures leaves { stack.new ≡ run_leaves status code.now stack.old }
 {
-    Answer {
-        outcome: Outcome::Refused(refusal),
-        steps: 0,
-        reached: 0,
-    }
+    let status = Status::try_from(status)?;
+    let front = stack.first_chunk_mut().ok_or(Reason::StackBuffer.at(0))?;
+    code::check(code)?;
+    let stopped = steps::repeat(status, code, schedule, front, Machine::STEPS);
+    record::field::clear(front, Machine::STACK_BYTES);
+    Ok(stopped.answer())
 }

@@ -1,17 +1,25 @@
-// The state of the machine, apart from its items, which are kept in the lent stack (document 01, "One step of the machine").
+// The state of the machine, apart from its items, which are kept in the lent stack (document 01, "One step of the machine"). The
+// two stay two arguments: handed by value the state keeps to registers, and after a refused step the loop still has it.
 
 ghost use Rattle.std.specs.Prelude.{◌≡◌};
-ghost use Rattle.machine.specs.States.{fresh_of, onward_of, unwound_of, Counting};
+ghost use Rattle.machine.specs.States.{fresh_of, place_of, onward_of, unwound_of, Counting};
 
 use rules::Status;
 
 #[derive(Clone, Copy)]
+pub enum Mode {
+    // At this address.
+    Running(usize),
+    Unwinding,
+}
+
+// What a step asks of it (`machine/States.Within`) is no invariant of the type: the page of a step (`machine/EachStep`) speaks of
+// every machine.
+#[derive(Clone, Copy)]
 pub struct Machine {
-    // Unwinding, or else running at the address.
-    pub unwinding: bool,
-    pub address: usize,
+    pub mode: Mode,
     pub status: Status,
-    // How many items the stack holds.
+    // How many items the stack holds. They stand in the bytes that the caller lends, and not in a container of ours.
     pub height: usize,
     pub steps: usize,
     pub reached: usize,
@@ -32,8 +40,7 @@ impl Machine {
         ensures { result ≡ fresh_of status }
     {
         Self {
-            unwinding: false,
-            address: 0,
+            mode: Mode::Running(0),
             status,
             height: 0,
             steps: 0,
@@ -41,45 +48,36 @@ impl Machine {
         }
     }
 
-    // An instruction was carried out or cut: both counts grow.
-    pub(crate) fn onward(
-        self,
-        unwinding: bool,
-        address: usize,
-        status: Status,
-        height: usize,
-    ) -> Self
-        requires { Counting self }
-        ensures { result ≡ onward_of self unwinding address status height }
+    // Where a step is refused: while it unwinds none is. A step that answered a whole refusal would need no place told, and took a
+    // run longer (docs/MEASURED.md).
+    pub(crate) fn place(self) -> usize
+        ensures { result ≡ place_of self.mode }
     {
-        Self {
-            unwinding,
-            address,
-            status,
-            height,
-            steps: self.steps + 1,
-            reached: self.reached + 1,
+        match self.mode {
+            Mode::Running(address) => address,
+            Mode::Unwinding => 0,
         }
     }
 
-    // An item was removed in unwinding: no instruction is reached.
-    pub(crate) fn unwound(
-        self,
-        unwinding: bool,
-        address: usize,
-        status: Status,
-        height: usize,
-    ) -> Self
+    // An item was removed in unwinding: a step more, and no instruction is reached.
+    pub(crate) fn unwound(self) -> Self
         requires { Counting self }
-        ensures { result ≡ unwound_of self unwinding address status height }
+        ensures { result ≡ unwound_of self }
     {
         Self {
-            unwinding,
-            address,
-            status,
-            height,
             steps: self.steps + 1,
-            reached: self.reached,
+            ..self
+        }
+    }
+
+    // An instruction was carried out or cut: both counts grow.
+    pub(crate) fn onward(self) -> Self
+        requires { Counting self }
+        ensures { result ≡ onward_of self }
+    {
+        Self {
+            reached: self.reached + 1,
+            ..self.unwound()
         }
     }
 }

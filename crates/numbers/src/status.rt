@@ -8,13 +8,11 @@ use rules::Status;
 pub fn number_of(status: Status) -> u32
     ensures { result ≡ status_number status }
 {
-    match status {
-        Status::Blocked => 0,
-        Status::Unblocked => 1,
-    }
+    status as u32
 }
 
-// Of a number that has passed test 7 or 11.
+// Of a number that has passed test 7 or 11. It answers for every number, so it is no `try_from`; and a `From` would say of no number
+// which it is for.
 pub fn of_number(number: u32) -> Status
     ensures { result ≡ status_numbered number }
 {

@@ -18,13 +18,10 @@ pub fn strikes(status: Status, schedule: &[u8], reached: usize) -> bool
 }
 
 // Past the schedule's end no recall is asked for.
+#[tactic(auto, unfolding(rules::specs::Schedule::asks))]
 fn asks(schedule: &[u8], reached: usize) -> bool
     ensures { result ≡ Schedule.asks schedule.now reached }
 {
-    let at = reached / 8;
-    if at < schedule.len() {
-        (schedule[at] >> (reached % 8)) % 2 == 1
-    } else {
-        false
-    }
+    let byte = schedule.get(reached / 8).copied().unwrap_or(0);
+    (byte >> (reached % 8)) % 2 == 1
 }

@@ -1,57 +1,38 @@
--- The digits that `io::decimal` makes are those of the definition.
+-- The digits that `itoa` makes are those of the definition.
 --
---   digits_decimal   the fewest digits that hold a number are its decimal digits
---   few_digits       ten of them hold 32 bits
+--   decimal_text   a number of up to 32 bits
+--   integer_text   a signed one
 --
 -- Assumes nothing.
-use Prim.Native.Nat.{ℕ, zero, suc, ◌-◌, ◌/◌, ◌%◌, ◌^◌, ◌≤◌, ◌<◌}
-use native.Mathlib.Decide.{dec_lt}
-use native.Mathlib.Nat.{one-le-pow, pow-le-pow_right}
-use native.Mathlib.Omega.{arith}
+use mir.Syntax.{w32}
+use Rattle.std.proofs.Common.{arith, ℕ, suc, ◌^◌, ◌<◌, ◌≤◌, ltb, true, false, ◌∷◌, length, ◌≡◌, sym, ap}
 use borrow.Author.Tests.{lt-ltb, le-ltb}
-use lib.Dec.{ltb}
-use mathlib.Core.Bool.{true, false}
-use mathlib.Core.List.{[], ◌∷◌}
-use mathlib.Core.Path.{◌≡◌, ap, ◌∙◌}
-use Rattle.io.specs.Digits.{hex_digit_ascii, last_digits, IsDigitCount}
-use Rattle.rules.specs.Line.{digit, decimal_within, decimal}
+use lib.IntN.{ℤ, pos, negsuc}
+use mir.Facts.{to_z-of_z}
+use mir.Val.{SFits, to_z, of_z}
+use Rattle.std.proofs.lemmas.Fmt.{AppendsLastDigit, decimal_from_appends, length-decimal-le_succ}
+use Rattle.std.specs.Fmt as printed
+use Rattle.rules.specs.Line.{decimal_within, decimal, integer}
 
-glyph_digit : (n : ℕ) → hex_digit_ascii (n % 10) ≡ digit (n % 10)
-glyph_digit n = let low : ltb (n % 10) 10 ≡ true = lt-ltb (n % 10) 10 (omega arith) in rw low
-
-less_one : (k : ℕ) → suc k - 1 ≡ k
-less_one k = omega arith
-
--- a number of two digits or more, and what is left of it without the last
-without_last : (k n : ℕ) → IsDigitCount 10 1 n (suc (suc k)) → (10 ≤ n) × IsDigitCount 10 1 (n / 10) (suc k)
-without_last k n fewest =
-    let some : 1 ≤ 10 ^ k = one-le-pow k 10 (omega arith) in
-    let front : 10 ^ suc k ≤ n = rw (less_one (suc k)) at (fewest.2 (omega arith)) in
-    (omega arith, (omega arith, omega arith, λ more. rw less_one (omega arith)))
-
-digits_within : (most k n : ℕ) → n < most → IsDigitCount 10 1 n k → last_digits 10 k n ≡ decimal_within most n
+by_last_digit : AppendsLastDigit decimal_within
 unfolding decimal_within
-digits_within zero k n below fewest = absurd (omega arith)
-digits_within (suc most) zero n below fewest = absurd (omega arith)
-digits_within (suc most) (suc zero) n below fewest =
-    let single : ltb n 10 ≡ true = lt-ltb n 10 (omega arith) in
-    let same : n % 10 ≡ n = omega arith in
-    rw (single, decimal_within) (ap (λ d. d ∷ []) (glyph_digit n ∙ ap digit same))
-digits_within (suc most) (suc (suc k)) n below fewest =
-    let (ten, rest) = without_last k n fewest in
-    let several : ltb n 10 ≡ false = le-ltb n 10 ten in
-    rw (several, decimal_within) (rw (digits_within most (suc k) (n / 10) (omega arith) rest, glyph_digit n))
+by_last_digit = record {
+  one = λ k n small. let single : ltb n 10 ≡ true = lt-ltb n 10 small in rw (single, decimal_within);
+  more = λ k n large. let several : ltb n 10 ≡ false = le-ltb n 10 large in rw (several, decimal_within);
+}
 
-pub digits_decimal : (k n : ℕ) → IsDigitCount 10 1 n k → last_digits 10 k n ≡ decimal n
+pub decimal_text : (n : ℕ) → n < 2 ^ 32 → printed.decimal n ≡ decimal n
 unfolding decimal
-digits_decimal k n = digits_within (suc n) k n (omega arith)
+decimal_text n small =
+    let fits : n < 2 ^ 64 = omega arith in
+    let within : length (printed.decimal n) ≤ suc n = omega (arith, length-decimal-le_succ n fits) in
+    sym (decimal_from_appends decimal_within by_last_digit (suc n) n fits within)
 
-pub few_digits : (k n : ℕ) → IsDigitCount 10 1 n k → n < 2 ^ 32 → k ≤ 10
-few_digits k n fewest small = elim (dec_lt 10 k) [
-  | yes over ↦
-      let ten : 10 ≤ k - 1 = omega arith in
-      let held : 10 ^ (k - 1) ≤ n = fewest.2 (omega arith) in
-      let more : 10 ^ 10 ≤ 10 ^ (k - 1) = pow-le-pow_right (omega arith) ten in
-      absurd (omega arith)
-  | no few ↦ omega arith
-]
+by_sign : (n : ℤ) → SFits w32 n → printed.signed_decimal n ≡ integer n
+unfolding integer
+by_sign (pos n) fits = let small : n < 2 ^ 31 = fits.sfits in decimal_text n (omega arith)
+by_sign (negsuc n) fits = let small : n < 2 ^ 31 = fits.sfits in ap (λ text. 45 ∷ text) (decimal_text (suc n) (omega arith))
+
+-- as a caller's contract names a number, by its 32 bits
+pub integer_text : (n : ℤ) → SFits w32 n → printed.signed_decimal (to_z w32 (of_z w32 n)) ≡ integer n
+integer_text n fits = rw (to_z-of_z fits) (by_sign n fits)

@@ -17,15 +17,15 @@ use Rattle.rules.specs.Limits.{record_bytes, code_limit, stack_bytes}
 use Rattle.rules.specs.Line.{refused_line, outcome_line, answer_line}
 use Rattle.rules.specs.Rehearsal.{rehearse}
 use Rattle.rules.specs.Running.{run_answer}
-use Rattle.rules.specs.declared.Compiled.{Compiled}
-use Rattle.rules.specs.declared.Compiled.TheVariants.{Length, Refused}
 use Rattle.rules.proofs.Bytes.Answered.{compile_passed}
+use Rattle.std.specs.Prelude.{Result, Ok, Err}
 use Rattle.salnegris.proofs.Accepted.{passes, code_length_lem, buffer_room}
+use Rattle.rules.specs.declared.Refusal.{Refusal}
 
 abbrev buffer : List ℕ
 buffer = replicate code_limit 0
 
-abbrev pub compiled : List ℕ → Compiled
+abbrev pub compiled : List ℕ → Result ℕ Refusal
 compiled table = compile_answer table buffer
 
 pub code_fits : (table : List ℕ) → compiled_refusal (compiled table) ≡ 0
@@ -35,11 +35,11 @@ code_fits table accepted =
     omega (arith, code_length_lem all, buffer_room all, length-replicate {A = ℕ} code_limit 0)
 
 module _ (status : ℕ) (table schedule : List ℕ) where
-  refused_by : (c : Compiled) → compiled table ≡ c → (compiled_refusal c ≡ 0 → ⊥)
+  refused_by : (c : Result ℕ Refusal) → compiled table ≡ c → (compiled_refusal c ≡ 0 → ⊥)
       → refused_line (compiled_refusal c) (compiled_place c) ≡ answer_line (rehearse status table schedule)
   unfolding compiled_refusal compiled_place rehearse answer_line outcome_line
-  refused_by (Length n) e refused = absurd (refused refl)
-  refused_by (Refused r) e refused = rw (e, rehearse)
+  refused_by (Ok n) e refused = absurd (refused refl)
+  refused_by (Err r) e refused = rw (e, rehearse)
 
   pub line_refused : (compiled_refusal (compiled table) ≡ 0 → ⊥)
       → refused_line (compiled_refusal (compiled table)) (compiled_place (compiled table))

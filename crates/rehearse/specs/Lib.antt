@@ -1,4 +1,4 @@
 pub mod Exit
+pub mod Failure
 pub mod Fields
 pub mod Reading
-pub mod Written

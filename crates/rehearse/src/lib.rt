@@ -4,18 +4,18 @@
 
 #![tactic(auto)]
 
+mod failure;
 mod line;
 mod printing;
-mod put;
-mod reading;
+pub mod reading;
 mod rehearsal;
 
-ghost use Rattle.std.specs.Prelude.{◌≡◌};
+ghost use Rattle.std.specs.Prelude.{◌≡◌, is_ok};
 ghost use Rattle.rehearse.specs.Exit.{ExitsWith, line_status};
 
-use reading::Reading;
+use failure::Failure;
 
-// The program, started with arguments or without. Its value is the exit status.
+// The program, started with arguments or without. Its value is the exit status, a number for the system.
 pub fn salnegris_rehearse(rt: &(impl Input + Print + Eprint), arguments: bool) -> u8
     ensures { ExitsWith arguments result }
 {
@@ -25,27 +25,27 @@ pub fn salnegris_rehearse(rt: &(impl Input + Print + Eprint), arguments: bool) -
         );
         return 2;
     }
-    status(rehearse(rt))
-}
-
-// Whether the line is written, and all of it. What cannot be read or written is told.
-fn rehearse(rt: &(impl Input + Print + Eprint)) -> bool {
-    let mut input = [0u8; 8192];
-    let Reading::Whole(read) = reading::standard_input(&mut rt.reader(), &mut input) else {
-        let _ = rt.eprintln("rehearse: standard input cannot be read");
-        return false;
-    };
-    let mut line = [0u8; 64];
-    let length = rehearsal::of_input(&input[..read], &mut line);
-    let written = printing::standard_output(rt, &line[..length]);
-    if !written {
-        let _ = rt.eprintln("rehearse: standard output cannot be written");
+    let written = rehearse(rt);
+    if let Err(failure) = written {
+        let _ = rt.eprintln(failure);
     }
-    written
+    status(written)
 }
 
-fn status(written: bool) -> u8
-    ensures { result ≡ line_status written }
+// Ok where the line is written, and all of it. The input is read into bytes of a fixed number, not into a heap.
+fn rehearse(rt: &(impl Input + Print)) -> Result<(), Failure> {
+    let mut input = [0u8; 8192];
+    let read = reading::standard_input(&mut rt.reader(), &mut input).map_err(|_| Failure::Unread)?;
+    let line = rehearsal::of_input(&input[..read]);
+    printing::standard_output(rt, line.as_str().as_bytes()).map_err(|_| Failure::Unwritten)
+}
+
+// An exit status is a number for the system.
+fn status(written: Result<(), Failure>) -> u8
+    ensures { result ≡ line_status (is_ok written) }
 {
-    if written { 0 } else { 1 }
+    match written {
+        Ok(()) => 0,
+        Err(_) => 1,
+    }
 }

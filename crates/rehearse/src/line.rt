@@ -1,71 +1,80 @@
-// The lines that the program prints, each at the front of a buffer. Each function answers the line's length.
+// The lines that the program prints.
 
-ghost use Rattle.std.specs.Prelude.{◌+◌, ◌≤◌, length, ◌++◌};
+ghost use Rattle.std.specs.Prelude.{◌+◌, ◌≤◌, ◌≡◌, ◌++◌};
+ghost use Rattle.arrayvec.specs.ArrayString.{array_string_len};
 ghost use Rattle.rules.specs.Line as Line;
 ghost use Rattle.rehearse.specs.Fields.{fields_line};
-ghost use Rattle.rehearse.specs.Written.{Written, line_bytes};
 
-use super::put;
+use arrayvec::ArrayString;
+use itoa::{Buffer, Integer};
 use salnegris::AnswerFields;
 
-// The line of an answer, by its kind.
-pub(crate) fn answer(answer: AnswerFields, line: &mut [u8]) -> usize
-    requires { line_bytes ≤ length line.old }
-    ensures { Written line.old 0 (fields_line answer) line.new result }
+// The longest line, `number -2147483648 steps 4294967295 reached 4294967295`, has 54 bytes and a line feed. Texts are pushed, since
+// no contract says of a `write!` that it succeeds where there is room.
+pub(crate) type Line = ArrayString<64>;
+
+// The line of an answer, by its kind, which is a number for the C interface.
+pub(crate) fn answer(answer: AnswerFields) -> Line
+    ensures { result.bytes ≡ fields_line answer }
 {
-    let kind = answer.kind;
-    match kind {
-        0 => number(answer.number, answer.steps, answer.reached, line),
-        1 => throw(answer.steps, answer.reached, line),
-        _ => refused(answer.refusal, answer.place, line),
+    match answer.kind {
+        0 => number(answer.number, answer.steps, answer.reached),
+        1 => throw(answer.steps, answer.reached),
+        _ => refused(answer.refusal, answer.place),
     }
 }
 
 // `number 9 steps 1 reached 1`
-fn number(n: i32, steps: u32, reached: u32, line: &mut [u8]) -> usize
-    requires { line_bytes ≤ length line.old }
-    ensures { Written line.old 0 (Line.number_line n steps reached) line.new result }
+fn number(n: i32, steps: u32, reached: u32) -> Line
+    ensures { result.bytes ≡ Line.number_line n steps reached }
 {
-    let at = put::text(b"number ", line, 0);
-    let at = put::integer(n, line, at);
-    totals(steps, reached, line, at)
+    let mut line = Line::new();
+    line.push_str("number ");
+    push(&mut line, n);
+    push_totals(&mut line, steps, reached);
+    line
 }
 
 // `throw steps 1 reached 1`
-fn throw(steps: u32, reached: u32, line: &mut [u8]) -> usize
-    requires { line_bytes ≤ length line.old }
-    ensures { Written line.old 0 (Line.throw_line steps reached) line.new result }
+fn throw(steps: u32, reached: u32) -> Line
+    ensures { result.bytes ≡ Line.throw_line steps reached }
 {
-    let at = put::text(b"throw", line, 0);
-    totals(steps, reached, line, at)
+    let mut line = Line::new();
+    line.push_str("throw");
+    push_totals(&mut line, steps, reached);
+    line
 }
 
 // `refused 5 at 0`
-pub(crate) fn refused(refusal: u32, place: u32, line: &mut [u8]) -> usize
-    requires { line_bytes ≤ length line.old }
-    ensures { Written line.old 0 (Line.refused_line refusal place) line.new result }
+pub(crate) fn refused(refusal: u32, place: u32) -> Line
+    ensures { result.bytes ≡ Line.refused_line refusal place }
 {
-    ending(b"refused ", refusal, b" at ", place, line, 0)
+    let mut line = Line::new();
+    line.push_str("refused ");
+    push(&mut line, refusal);
+    line.push_str(" at ");
+    push(&mut line, place);
+    line.push_str("\n");
+    line
 }
 
 // ` steps 1 reached 1`
-fn totals(steps: u32, reached: u32, line: &mut [u8], at: usize) -> usize
-    requires { at + 37 ≤ length line.old }
-    ensures { Written line.old at (Line.totals steps reached) line.new result }
+fn push_totals(line: &mut Line, steps: u32, reached: u32)
+    requires { array_string_len line.old + 37 ≤ 64 }
+    ensures { line.new.bytes ≡ line.old.bytes ++ Line.totals steps reached }
 {
-    ending(b" steps ", steps, b" reached ", reached, line, at)
+    line.push_str(" steps ");
+    push(line, steps);
+    line.push_str(" reached ");
+    push(line, reached);
+    line.push_str("\n");
 }
 
-// The end of a line: two numbers, each after its name, "and a line feed".
-fn ending(first: &[u8], n: u32, second: &[u8], m: u32, line: &mut [u8], at: usize) -> usize
-    requires { at + length first.now + length second.now + 21 ≤ length line.old }
-    ensures { Written line.old at
-        (first.now ++ Line.decimal n ++ second.now ++ Line.decimal m ++ Line.ascii "\n")
-        line.new result }
+// "Numbers in decimal", "a minus sign where negative".
+fn push<N: Integer>(line: &mut Line, n: N)
+    requires { array_string_len line.old + N.MAX_STR_LEN ≤ 64 }
+    ensures bytes { line.new.bytes ≡ line.old.bytes ++ N.text n }
+    ensures len { array_string_len line.new ≤ array_string_len line.old + N.MAX_STR_LEN }
 {
-    let at = put::text(first, line, at);
-    let at = put::decimal(n, line, at);
-    let at = put::text(second, line, at);
-    let at = put::decimal(m, line, at);
-    put::text(b"\n", line, at)
+    line.push_str(Buffer::new().format(n));
 }

@@ -14,8 +14,5 @@ fn main(rt: HostRuntime) -> ExitCode {
 // The argument at 0 is the program's name. One that is longer than the byte lent for it is there all the same.
 fn has_arguments(env: &impl Env) -> bool {
     let mut byte = [0u8; 1];
-    match env.arg(1, &mut byte) {
-        Err(FillError::NotPresent) => false,
-        _ => true,
-    }
+    !matches!(env.arg(1, &mut byte), Err(FillError::NotPresent))
 }

@@ -10,20 +10,21 @@
 --   Walked                           the records below j have passed a test
 --   walk_begins, walk_goes_on        from the first record on
 --   walk_stops, walk_ends            to one that is refused, or past the last
+--   size_told, size_missing          how many records there are, where a test of the size is passed, and the refusal where not
 --
 -- Assumes nothing.
 use Prim.Native.Nat.{ℕ, ◌+◌, ◌≤◌, ◌<◌}
 use native.Mathlib.Omega.{arith}
-use mathlib.Core.Bool.{Bool, true, false}
+use mathlib.Core.Bool.{Bool, true, false, cond}
 use mathlib.Core.List.{List, [], ◌∷◌}
 use mathlib.Core.Option.{Option, none, some}
 use mathlib.Core.Path.{◌≡◌, refl, sym}
 use Rattle.rules.specs.Bytes.{records, row_numbered}
 use Rattle.rules.specs.Checking.{answer_by, checked_by, check_answer, row_passes}
 use Rattle.rules.specs.Refusals.{unless, first_refusal, lowest_refusal}
-use Rattle.rules.specs.declared.Checked.{Checked}
-use Rattle.rules.specs.declared.Checked.TheVariants.{Accepted, Refused}
 use Rattle.rules.specs.declared.Refusal.{Refusal}
+use Rattle.std.specs.Prelude.{Result, Ok, Err, Some, None}
+use Rattle.std.specs.Option.{ok_or}
 use Rattle.rules.proofs.Refusals.{lowest_next, lowest_found}
 
 -- ---- an answer
@@ -71,21 +72,21 @@ row_passes_lem rows test k e = rw e
 
 -- ---- a checker's answer
 
-abbrev pub refusal_of : Checked → Option Refusal
-refusal_of (Accepted n) = none
-refusal_of (Refused r) = some r
+abbrev pub refusal_of : {A : Type 0} → Result A Refusal → Option Refusal
+refusal_of (Ok x) = none
+refusal_of (Err r) = some r
 
-pub checked_told : (n : ℕ) (found : Option Refusal) {answer : Checked} → checked_by n found ≡ answer → found ≡ refusal_of answer
-checked_told n found = answer_told refusal_of Refused (Accepted n) found refl (λ r. refl)
+pub checked_told : (n : ℕ) (found : Option Refusal) {answer : Result ℕ Refusal} → checked_by n found ≡ answer → found ≡ refusal_of answer
+checked_told n found = answer_told refusal_of Err (Ok n) found refl (λ r. refl)
 
 module _ (tests : List ℕ → List (Option Refusal)) (bytes : List ℕ) where
-  pub check_refused : {r : Refusal} → check_answer tests bytes ≡ Refused r → first_refusal (tests bytes) ≡ some r
+  pub check_refused : {r : Refusal} → check_answer tests bytes ≡ Err r → first_refusal (tests bytes) ≡ some r
   check_refused = checked_told (records bytes) (first_refusal (tests bytes))
 
-  pub check_accepted : {n : ℕ} → check_answer tests bytes ≡ Accepted n → (first_refusal (tests bytes) ≡ none) × (n ≡ records bytes)
+  pub check_accepted : {n : ℕ} → check_answer tests bytes ≡ Ok n → (first_refusal (tests bytes) ≡ none) × (n ≡ records bytes)
   check_accepted e =
       let passed = checked_told (records bytes) (first_refusal (tests bytes)) e in
-      (passed, cc (answer_passed Refused (Accepted (records bytes)) passed, e))
+      (passed, cc (answer_passed Err (Ok (records bytes)) passed, e))
 
 -- ---- the walk over n records, upward
 
@@ -106,3 +107,13 @@ module _ {test : ℕ → Option Refusal} {n j : ℕ} (so_far : Walked test n j) 
 
   pub walk_ends : n ≤ j → lowest_refusal test n ≡ none
   walk_ends h = let end : j ≡ n = omega (arith, so_far.within) in rw end at so_far.passed
+
+-- ---- the size
+
+pub size_told : (test : Bool) (n : ℕ) (e : Refusal) {m : ℕ} → ok_or (cond test (Some n) None) e ≡ Ok m → (test ≡ true) × (m ≡ n)
+size_told true n e h = (refl, cc (sym h))
+size_told false n e h = absurd (cc h)
+
+pub size_missing : (test : Bool) (n : ℕ) (e : Refusal) {r : Refusal} → ok_or (cond test (Some n) None) e ≡ Err r → (test ≡ false) × (r ≡ e)
+size_missing true n e h = absurd (cc h)
+size_missing false n e h = (refl, cc (sym h))

@@ -14,10 +14,8 @@
 --
 -- Rows that are numbered from 1, as `row_numbered` looks them up.
 --
---   RowKnown, row_known   there is one of each number up to their length
---   row_unknown           and none of any other
---   NoneOf, row_none_of   nor of a number that differs from each of those
---   each_row              of each row and its number, so of the row that a number names
+--   RowKnown   a number has a row
+--   each_row   of each row and its number, so of the row that a number names
 --
 -- Assumes nothing.
 use Prim.Native.Nat.{ℕ, zero, suc, ◌+◌, ◌≤◌, ◌<◌}
@@ -79,42 +77,10 @@ module _ {A : Type 0} {P : ℕ → A → Type 0} where
 
 -- ---- rows
 
--- k is none of 1 to n, as the last arm of a match on them has it
-abbrev pub NoneOf : ℕ → ℕ → Type 0
-NoneOf k zero = Unit
-NoneOf k (suc n) = NoneOf k n × (k ≡ suc n → ⊥)
-
-none_of_outside : (k n : ℕ) → NoneOf k n → 1 ≤ k → k ≤ n → ⊥
-none_of_outside k zero other l h = omega arith
-none_of_outside k (suc n) other l h = elim (dec_lt n k) [
-  | yes last ↦ other.1 (omega arith)
-  | no before ↦ none_of_outside k n other.0 l (omega arith)
-]
-
 module _ {A : Type 0} where
   pub record RowKnown (rows : List A) (k : ℕ) : Type 0 where
     pub row : A
     pub found : row_numbered rows k ≡ some row
-
-  pub row_known : (rows : List A) (k : ℕ) → 1 ≤ k → k ≤ length rows → RowKnown rows k
-  unfolding row_numbered
-  row_known [] k l h = absurd (omega arith)
-  row_known (row ∷ rows) zero l h = absurd (omega arith)
-  row_known (row ∷ rows) (suc zero) l h = record { row = row; found = refl }
-  row_known (row ∷ rows) (suc (suc k)) l h =
-      let later = row_known rows (suc k) (omega arith) (omega arith) in
-      record { row = later.row; found = later.found }
-
-  pub row_unknown : (rows : List A) (k : ℕ) → (1 ≤ k → k ≤ length rows → ⊥) → row_numbered rows k ≡ none
-  unfolding row_numbered
-  row_unknown rows zero outside = refl
-  row_unknown rows (suc k) outside = elim (dec_lt k (length rows)) [
-    | yes below ↦ absurd (outside (omega arith) (omega arith))
-    | no past ↦ missing_past rows k (omega arith)
-  ]
-
-  pub row_none_of : (rows : List A) (k : ℕ) → NoneOf k (length rows) → row_numbered rows k ≡ none
-  row_none_of rows k other = row_unknown rows k (none_of_outside k (length rows) other)
 
   pub each_row : (P : ℕ → A → Type 0) (rows : List A) → EachFrom P 1 rows → (k : ℕ) {row : A} → row_numbered rows k ≡ some row
       → P k row

@@ -7,15 +7,13 @@
 --                                    the fields of what compiling answers
 --
 -- Assumes nothing.
-use Rattle.std.specs.Prelude.{ℕ, zero, suc, ℤ, pos}
+use Rattle.std.specs.Prelude.{ℕ, zero, suc, ℤ, pos, Result, Ok, Err}
 use Rattle.rules.specs.Refusals.{refusal_number}
 use Rattle.rules.specs.declared.Status.{Status}
 use Rattle.rules.specs.declared.Status.TheVariants.{Blocked, Unblocked}
 use Rattle.rules.specs.declared.End.TheVariants.{Number, Throw}
-use Rattle.rules.specs.declared.Outcome.{Outcome}
-use Rattle.rules.specs.declared.Outcome.TheVariants.{Ended}
-use Rattle.rules.specs.declared.Compiled.{Compiled}
-use Rattle.rules.specs.declared.Compiled.TheVariants.{Length}
+use Rattle.rules.specs.declared.Refusal.{Refusal}
+use Rattle.rules.specs.declared.End.{End}
 
 abbrev pub status_number : Status → ℕ
 status_number Blocked = 0
@@ -28,34 +26,34 @@ status_numbered (suc n) = Unblocked
 
 -- ---- running: "the kind of end (0 number, 1 throw, 2 refused)"
 
-unfoldable pub outcome_kind : Outcome → ℕ
-outcome_kind (Ended (Number n)) = 0
-outcome_kind (Ended Throw) = 1
-outcome_kind (Outcome.Refused r) = 2
+unfoldable pub outcome_kind : Result End Refusal → ℕ
+outcome_kind (Ok (Number n)) = 0
+outcome_kind (Ok Throw) = 1
+outcome_kind (Err r) = 2
 
-unfoldable pub outcome_number : Outcome → ℤ
-outcome_number (Ended (Number n)) = n
-outcome_number (Ended Throw) = pos 0
-outcome_number (Outcome.Refused r) = pos 0
+unfoldable pub outcome_number : Result End Refusal → ℤ
+outcome_number (Ok (Number n)) = n
+outcome_number (Ok Throw) = pos 0
+outcome_number (Err r) = pos 0
 
-unfoldable pub outcome_refusal : Outcome → ℕ
-outcome_refusal (Ended v) = 0
-outcome_refusal (Outcome.Refused r) = refusal_number r.reason
+unfoldable pub outcome_refusal : Result End Refusal → ℕ
+outcome_refusal (Ok v) = 0
+outcome_refusal (Err r) = refusal_number r.reason
 
-unfoldable pub outcome_place : Outcome → ℕ
-outcome_place (Ended v) = 0
-outcome_place (Outcome.Refused r) = r.place
+unfoldable pub outcome_place : Result End Refusal → ℕ
+outcome_place (Ok v) = 0
+outcome_place (Err r) = r.place
 
 -- ---- compiling
 
-unfoldable pub compiled_length : Compiled → ℕ
-compiled_length (Length n) = n
-compiled_length (Compiled.Refused r) = 0
+unfoldable pub compiled_length : Result ℕ Refusal → ℕ
+compiled_length (Ok n) = n
+compiled_length (Err r) = 0
 
-unfoldable pub compiled_refusal : Compiled → ℕ
-compiled_refusal (Length n) = 0
-compiled_refusal (Compiled.Refused r) = refusal_number r.reason
+unfoldable pub compiled_refusal : Result ℕ Refusal → ℕ
+compiled_refusal (Ok n) = 0
+compiled_refusal (Err r) = refusal_number r.reason
 
-unfoldable pub compiled_place : Compiled → ℕ
-compiled_place (Length n) = 0
-compiled_place (Compiled.Refused r) = r.place
+unfoldable pub compiled_place : Result ℕ Refusal → ℕ
+compiled_place (Ok n) = 0
+compiled_place (Err r) = r.place

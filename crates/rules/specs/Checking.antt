@@ -5,12 +5,10 @@
 --   row_passes     a test that a row of kinds or opcodes makes, passed where the number names none
 --
 -- Assumes nothing.
-use Rattle.std.specs.Prelude.{ℕ, Bool, true, List}
+use Rattle.std.specs.Prelude.{ℕ, Bool, true, List, Result, Ok, Err}
 use Rattle.std.proofs.Math.Option.{Option, none, some}
 use Rattle.rules.specs.Bytes.{records, row_numbered}
 use Rattle.rules.specs.Refusals.{first_refusal}
-use Rattle.rules.specs.declared.Checked.{Checked}
-use Rattle.rules.specs.declared.Checked.TheVariants.{Accepted, Refused}
 use Rattle.rules.specs.declared.Refusal.{Refusal}
 
 unfoldable pub answer_by : {A : Type 0} → Option Refusal → (Refusal → A) → A → A
@@ -18,11 +16,11 @@ answer_by none refused sound = sound
 answer_by (some r) refused sound = refused r
 
 -- n records, from what their tests found
-abbrev pub checked_by : ℕ → Option Refusal → Checked
-checked_by n found = answer_by found Refused (Accepted n)
+abbrev pub checked_by : ℕ → Option Refusal → Result ℕ Refusal
+checked_by n found = answer_by found Err (Ok n)
 
 -- bytes, by the row of their tests
-abbrev pub check_answer : (List ℕ → List (Option Refusal)) → List ℕ → Checked
+abbrev pub check_answer : (List ℕ → List (Option Refusal)) → List ℕ → Result ℕ Refusal
 check_answer tests bytes = checked_by (records bytes) (first_refusal (tests bytes))
 
 -- ---- a test by a row

@@ -7,7 +7,7 @@
 --   compile_leaves   "the code fills the front of the buffer and later bytes stay as they were. Refused, it writes nothing."
 --
 -- Assumes nothing.
-use Rattle.std.specs.Prelude.{ℕ, ◌*◌, leb, length, drop, List, [], ◌∷◌, ◌++◌}
+use Rattle.std.specs.Prelude.{ℕ, ◌*◌, leb, length, drop, List, [], ◌∷◌, ◌++◌, Result, Ok, Err}
 use Rattle.std.proofs.Math.Option.{Option, none, some}
 use Rattle.rules.specs.Code.{code_length, compile}
 use Rattle.rules.specs.CodeBytes.{bytes_of}
@@ -18,8 +18,6 @@ use Rattle.rules.specs.Table.{table_tests}
 use Rattle.rules.specs.declared.Instruction.{Instruction}
 use Rattle.rules.specs.declared.Reason.TheVariants.{CodeBuffer}
 use Rattle.rules.specs.declared.Refusal.{Refusal}
-use Rattle.rules.specs.declared.Compiled.{Compiled}
-use Rattle.rules.specs.declared.Compiled.TheVariants.{Length, Refused}
 
 unfoldable pub code_of : List ℕ → List Instruction
 code_of table = compile 0 (recipe table)
@@ -28,9 +26,9 @@ unfoldable pub compile_tests : List ℕ → List ℕ → List (Option Refusal)
 compile_tests table buffer =
     table_tests table ++ (unless (leb (record_bytes * code_length (recipe table)) (length buffer)) CodeBuffer 0 ∷ [])
 
-unfoldable pub compile_answer : List ℕ → List ℕ → Compiled
+unfoldable pub compile_answer : List ℕ → List ℕ → Result ℕ Refusal
 compile_answer table buffer =
-    elim (first_refusal (compile_tests table buffer)) [ none ↦ Length (code_length (recipe table)) | some r ↦ Refused r ]
+    elim (first_refusal (compile_tests table buffer)) [ none ↦ Ok (code_length (recipe table)) | some r ↦ Err r ]
 
 unfoldable pub compile_leaves : List ℕ → List ℕ → List ℕ
 compile_leaves table buffer =

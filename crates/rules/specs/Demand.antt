@@ -9,7 +9,7 @@
 --   Demand            the claim
 --
 -- Assumes nothing.
-use Rattle.std.specs.Prelude.{ℕ, ◌*◌, ◌-◌, ◌≤◌, length, false, ◌↔◌, ◌≡◌}
+use Rattle.std.specs.Prelude.{ℕ, ◌*◌, ◌-◌, ◌≤◌, length, false, ◌↔◌, ◌≡◌, Ok}
 use Rattle.std.proofs.Math.Option.{some}
 use Rattle.rules.specs.Code.{code_length, compile}
 use Rattle.rules.specs.Evaluation.{Gives, quiet}
@@ -18,7 +18,6 @@ use Rattle.rules.specs.Machine.{State, Placing}
 use Rattle.rules.specs.Run.{runs, state_after}
 use Rattle.rules.specs.declared.Status.{Status}
 use Rattle.rules.specs.declared.End.{End}
-use Rattle.rules.specs.declared.Outcome.TheVariants.{Ended}
 use Rattle.rules.specs.declared.Answer.{Answer}
 
 abbrev pub of_expression : Expression → Placing → Status → Answer
@@ -32,7 +31,7 @@ most_reached e = 2 * nodes e - 1
 
 pub record Ends (e : Expression) (i : Status) (a : Answer) : Type 0 where
   pub end : End
-  pub ended : a.outcome ≡ Ended end
+  pub ended : a.outcome ≡ Ok end
   pub permitted : Gives e i end
   pub within_steps : a.steps ≤ most_steps e
   pub within_reached : a.reached ≤ most_reached e
@@ -48,9 +47,9 @@ pub record Demand (e : Expression) (i : Status) : Type 0 where
   pub ends : (placing : Placing) → Ends e i (of_expression e placing i)
   -- "each permitted end is met by a placing over the first 2n - 1 instructions reached"
   pub meets : (v : End) → Gives e i v
-      → (placing : Placing) × AsksNothingFrom (most_reached e) placing × ((of_expression e placing i).outcome ≡ Ended v)
+      → (placing : Placing) × AsksNothingFrom (most_reached e) placing × ((of_expression e placing i).outcome ≡ Ok v)
   -- "a number, or a throw, is the end of its compiled code under some placing exactly when the evaluation rules permit that end"
-  pub exactly : (v : End) → ((placing : Placing) × ((of_expression e placing i).outcome ≡ Ended v)) ↔ Gives e i v
+  pub exactly : (v : End) → ((placing : Placing) × ((of_expression e placing i).outcome ≡ Ok v)) ↔ Gives e i v
   -- the stack never holds more items than there are nodes
   pub items : (placing : Placing) (k : ℕ) (s : State) → state_after (compile 0 e) placing i k ≡ some s
       → length s.items ≤ nodes e
@@ -58,5 +57,5 @@ pub record Demand (e : Expression) (i : Status) : Type 0 where
   pub column : length (compile 0 e) ≡ code_length e
   pub short : code_length e ≤ most_reached e
   -- the end that no recall gives is the expression's own, and permitted
-  pub quietly : (of_expression e no_recall i).outcome ≡ Ended (quiet e)
+  pub quietly : (of_expression e no_recall i).outcome ≡ Ok (quiet e)
   pub quiet_given : Gives e i (quiet e)

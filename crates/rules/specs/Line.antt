@@ -12,14 +12,14 @@
 --
 -- Assumes nothing.
 use Prim.Native.Char.{code}
-use Rattle.std.specs.Prelude.{ℕ, zero, suc, ◌+◌, ◌/◌, ◌%◌, ltb, ℤ, pos, negsuc, true, false, List, [], ◌∷◌, ◌++◌}
+use Rattle.std.specs.Prelude.{ℕ, zero, suc, ◌+◌, ◌/◌, ◌%◌, ltb, ℤ, pos, negsuc, true, false, List, [], ◌∷◌, ◌++◌, Result, Ok, Err}
 use Prim.Native.String.{String, [] as nothing, ◌∷◌ as ◌then◌}
 use Rattle.rules.specs.Refusals.{refusal_number}
 use Rattle.rules.specs.Rehearsal.{rehearsal}
 use Rattle.rules.specs.declared.End.TheVariants.{Number, Throw}
-use Rattle.rules.specs.declared.Outcome.{Outcome}
-use Rattle.rules.specs.declared.Outcome.TheVariants.{Ended, Refused}
 use Rattle.rules.specs.declared.Answer.{Answer}
+use Rattle.rules.specs.declared.Refusal.{Refusal}
+use Rattle.rules.specs.declared.End.{End}
 
 abbrev pub ascii : String → List ℕ
 ascii nothing = []
@@ -62,10 +62,10 @@ throw_line steps reached = ascii "throw" ++ totals steps reached
 abbrev pub refused_line : ℕ → ℕ → List ℕ
 refused_line refusal place = ascii "refused " ++ decimal refusal ++ ascii " at " ++ decimal place ++ ascii "\n"
 
-unfoldable pub outcome_line : Outcome → ℕ → ℕ → List ℕ
-outcome_line (Ended (Number n)) steps reached = number_line n steps reached
-outcome_line (Ended Throw) steps reached = throw_line steps reached
-outcome_line (Refused r) steps reached = refused_line (refusal_number r.reason) r.place
+unfoldable pub outcome_line : Result End Refusal → ℕ → ℕ → List ℕ
+outcome_line (Ok (Number n)) steps reached = number_line n steps reached
+outcome_line (Ok Throw) steps reached = throw_line steps reached
+outcome_line (Err r) steps reached = refused_line (refusal_number r.reason) r.place
 
 unfoldable pub answer_line : Answer → List ℕ
 answer_line a = outcome_line a.outcome a.steps a.reached

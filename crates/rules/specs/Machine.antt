@@ -9,7 +9,7 @@
 --   step       one step
 --
 -- Assumes nothing.
-use Rattle.std.specs.Prelude.{ℕ, ◌+◌, ℤ, ltb, length, Bool, false, cond, List, [], ◌∷◌}
+use Rattle.std.specs.Prelude.{ℕ, ◌+◌, ℤ, ltb, length, Bool, false, cond, List, [], ◌∷◌, Result, Ok, Err}
 use Rattle.std.proofs.Math.ListN.{get_elem?}
 use Rattle.std.proofs.Math.Option.{Option, none, some}
 use Rattle.rules.specs.Limits.{item_limit}
@@ -21,8 +21,6 @@ use Rattle.rules.specs.declared.Instruction.TheVariants.{Push, Pop, Mark, Unmark
 use Rattle.rules.specs.declared.Item.{Item}
 use Rattle.rules.specs.declared.Item.TheVariants.{Number, Handler, Saved}
 use Rattle.rules.specs.declared.End.{End}
-use Rattle.rules.specs.declared.Outcome.{Outcome}
-use Rattle.rules.specs.declared.Outcome.TheVariants.{Ended, Refused}
 use Rattle.rules.specs.declared.Reason.TheVariants.{StackFull, NoRule}
 use Rattle.rules.specs.declared.Refusal.{Refusal}
 
@@ -45,7 +43,7 @@ Placing = ℕ → Bool
 
 pub data Step : Type 0 where
   Next : State → Step
-  Over : Outcome → Step
+  Over : Result End Refusal → Step
   Stuck : Refusal → Step
 
 -- ---- the ways on from a state
@@ -128,11 +126,11 @@ at_instruction placing s a x =
 -- "Running at the length with one item, a number, ends in that number"
 unfoldable pub at_length : State → ℕ → Step
 at_length s a =
-    with_number s.items (Over (Refused (no_rule a))) λ n rest.
-    with_nothing rest (Over (Refused (no_rule a))) (Over (Ended (End.Number n)))
+    with_number s.items (Over (Err (no_rule a))) λ n rest.
+    with_nothing rest (Over (Err (no_rule a))) (Over (Ok (End.Number n)))
 
 unfoldable pub unwind : State → List Item → Step
-unwind s [] = Over (Ended End.Throw)
+unwind s [] = Over (Ok End.Throw)
 unwind s (Number n ∷ rest) = unwound s Unwinding s.status rest
 unwind s (Handler h ∷ rest) = unwound s (Running h) s.status rest
 unwind s (Saved i ∷ rest) = unwound s Unwinding i rest

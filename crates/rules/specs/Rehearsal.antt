@@ -4,12 +4,11 @@
 --   rehearsal   the answer for an input
 --
 -- Assumes nothing.
-use Rattle.std.specs.Prelude.{ℕ, ◌+◌, ◌*◌, ltb, length, take, drop, replicate, Bool, true, false, ◌||◌, List}
+use Rattle.std.specs.Prelude.{ℕ, ◌+◌, ◌*◌, ltb, length, take, drop, replicate, Bool, true, false, ◌||◌, List, Ok, Err}
 use Rattle.rules.specs.Bytes.{byte_at, half_at}
 use Rattle.rules.specs.Compiling.{compile_answer, compile_leaves}
 use Rattle.rules.specs.Limits.{record_bytes, code_limit, stack_bytes}
 use Rattle.rules.specs.Running.{run_answer, refused_answer}
-use Rattle.rules.specs.declared.Compiled.TheVariants.{Length, Refused}
 use Rattle.rules.specs.declared.Reason.TheVariants.{TableSize}
 use Rattle.rules.specs.declared.Answer.{Answer}
 
@@ -17,8 +16,8 @@ unfoldable pub rehearse : ℕ → List ℕ → List ℕ → Answer
 rehearse status table schedule =
     let buffer : List ℕ = replicate code_limit 0 in
     elim (compile_answer table buffer) [
-      | Length n ↦ run_answer status (take (record_bytes * n) (compile_leaves table buffer)) schedule (replicate stack_bytes 0)
-      | Refused r ↦ refused_answer r
+      | Ok n ↦ run_answer status (take (record_bytes * n) (compile_leaves table buffer)) schedule (replicate stack_bytes 0)
+      | Err r ↦ refused_answer r
     ]
 
 -- ---- "one status byte, two bytes of table length (little-endian), the table, and the rest as schedule"

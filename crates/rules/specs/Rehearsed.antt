@@ -5,12 +5,11 @@
 --   AsRehearsed         each of them comes to its answer
 --
 -- Assumes nothing.
-use Rattle.std.specs.Prelude.{ℕ, ℤ, pos, negsuc, ◌≡◌, List, [], ◌∷◌, ◌++◌, map}
+use Rattle.std.specs.Prelude.{ℕ, ℤ, pos, negsuc, ◌≡◌, List, [], ◌∷◌, ◌++◌, map, Ok}
 use Rattle.rules.specs.Rehearsal.{rehearse}
 use Rattle.rules.specs.Running.{refused_answer}
 use Rattle.rules.specs.declared.End.TheVariants.{Number, Throw}
 use Rattle.rules.specs.declared.Reason.TheVariants.{Uses}
-use Rattle.rules.specs.declared.Outcome.TheVariants.{Ended}
 use Rattle.rules.specs.declared.Answer.{Answer}
 
 pub record Rehearsed : Type 0 where
@@ -39,10 +38,10 @@ abbrev recalls : ℕ → List ℕ
 recalls bits = bits ∷ []
 
 abbrev number : ℤ → ℕ → ℕ → Answer
-number n steps reached = record { outcome = Ended (Number n); steps = steps; reached = reached }
+number n steps reached = record { outcome = Ok (Number n); steps = steps; reached = reached }
 
 abbrev throw : ℕ → ℕ → Answer
-throw steps reached = record { outcome = Ended Throw; steps = steps; reached = reached }
+throw steps reached = record { outcome = Ok Throw; steps = steps; reached = reached }
 
 abbrev comes : ℕ → List ℕ → List ℕ → Answer → Rehearsed
 comes status table schedule answer = record { status = status; table = table; schedule = schedule; answer = answer }

@@ -7,7 +7,7 @@
 --                untouched."
 --
 -- Assumes nothing.
-use Rattle.std.specs.Prelude.{ℕ, ltb, leb, length, drop, replicate, List, ◌∷◌, ◌++◌}
+use Rattle.std.specs.Prelude.{ℕ, ltb, leb, length, drop, replicate, List, ◌∷◌, ◌++◌, Err}
 use Rattle.std.proofs.Math.Option.{Option, none, some}
 use Rattle.rules.specs.Answers.{status_numbered}
 use Rattle.rules.specs.CodeBytes.{instructions, code_tests}
@@ -18,7 +18,6 @@ use Rattle.rules.specs.Schedule.{asks}
 use Rattle.rules.specs.declared.Reason.{Reason}
 use Rattle.rules.specs.declared.Reason.TheVariants.{StackBuffer}
 use Rattle.rules.specs.declared.Refusal.{Refusal}
-use Rattle.rules.specs.declared.Outcome.TheVariants.{Refused}
 use Rattle.rules.specs.declared.Answer.{Answer}
 
 unfoldable pub run_tests : ℕ → List ℕ → List ℕ → List (Option Refusal)
@@ -28,7 +27,7 @@ run_tests status code stack =
     ∷ code_tests code
 
 abbrev pub refused_answer : Refusal → Answer
-refused_answer r = record { outcome = Refused r; steps = 0; reached = 0 }
+refused_answer r = record { outcome = Err r; steps = 0; reached = 0 }
 
 unfoldable pub run_answer : ℕ → List ℕ → List ℕ → List ℕ → Answer
 run_answer status code schedule stack =

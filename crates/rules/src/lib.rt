@@ -3,6 +3,9 @@
 
 #![tactic(auto)]
 
+mod refused;
+mod status_byte;
+
 // "A status is 0, blocked, or 1, unblocked."
 #[derive(Clone, Copy)]
 pub enum Status {
@@ -43,63 +46,44 @@ pub enum Item {
     Saved(Status),
 }
 
-// What a recipe may end in.
+// What a recipe may end in. A throw is an end like a number, as the rules of evaluation have it, and no failure: so no Result.
 #[derive(Clone, Copy)]
 pub enum End {
     Number(i32),
     Throw,
 }
 
-// The refusals 1 to 15, in the document's order.
+// The refusals, by their numbers in the document.
 #[derive(Clone, Copy)]
 pub enum Reason {
-    TableSize,
-    Kind,
-    UnusedByte,
-    Operand,
-    Uses,
-    CodeBuffer,
-    Status,
-    StackBuffer,
-    CodeSize,
-    Opcode,
-    Field,
-    Target,
-    StackFull,
-    NoRule,
-    Steps,
+    TableSize = 1,
+    Kind = 2,
+    UnusedByte = 3,
+    Operand = 4,
+    Uses = 5,
+    CodeBuffer = 6,
+    Status = 7,
+    StackBuffer = 8,
+    CodeSize = 9,
+    Opcode = 10,
+    Field = 11,
+    Target = 12,
+    StackFull = 13,
+    NoRule = 14,
+    Steps = 15,
 }
 
+// A refusal: why, and where.
 #[derive(Clone, Copy)]
 pub struct Refusal {
     pub reason: Reason,
     pub place: usize,
 }
 
-// What checking answers: how many nodes a table has or instructions a code, or the refusal.
-#[derive(Clone, Copy)]
-pub enum Checked {
-    Accepted(usize),
-    Refused(Refusal),
-}
-
-// What compiling answers: the code length in instructions, or the refusal.
-#[derive(Clone, Copy)]
-pub enum Compiled {
-    Length(usize),
-    Refused(Refusal),
-}
-
-// What running comes to, and how far it got.
-#[derive(Clone, Copy)]
-pub enum Outcome {
-    Ended(End),
-    Refused(Refusal),
-}
-
+// What running answers: what a recipe ends in or the refusal, and how far it got.
 #[derive(Clone, Copy)]
 pub struct Answer {
-    pub outcome: Outcome,
+    pub outcome: Result<End, Refusal>,
     pub steps: usize,
     pub reached: usize,
 }

@@ -8,11 +8,11 @@
 use Prim.Native.Nat.{ℕ, ◌≤◌, ◌<◌}
 use native.Mathlib.Decide.{dec_lt}
 use native.Mathlib.Omega.{arith}
-use borrow.Author.Tests.{lt-ltb, le-leb}
+use borrow.Author.Tests.{lt-ltb, le-ltb, le-leb, lt-leb}
 use lib.ListN.{length}
 use mathlib.Core.List.{List}
 use mathlib.Core.Option.{none}
-use mathlib.Core.Path.{◌≡◌, refl, sym, ap, ◌∙◌}
+use mathlib.Core.Path.{◌≡◌, refl, ap, ◌∙◌}
 use Rattle.rules.specs.Answers.{status_number, status_numbered, outcome_refusal}
 use Rattle.rules.specs.CodeBytes.{bytes_of, code_tests}
 use Rattle.rules.specs.Compiling.{code_of}
@@ -21,14 +21,14 @@ use Rattle.rules.specs.Limits.{stack_bytes}
 use Rattle.rules.specs.Recipe.{recipe}
 use Rattle.rules.specs.Refusals.{unless, first_refusal}
 use Rattle.rules.specs.Run.{runs}
-use Rattle.rules.specs.Running.{run_tests, run_answer}
+use Rattle.rules.specs.Running.{run_tests, refused_answer, run_answer}
 use Rattle.rules.specs.Schedule.{asks}
 use Rattle.rules.specs.declared.Status.{Status}
+use Rattle.rules.specs.declared.Reason.TheVariants.{StackBuffer, Status as WrongStatus}
 use Rattle.rules.specs.declared.Status.TheVariants.{Blocked, Unblocked}
-use Rattle.rules.proofs.Bytes.Answered.{run_passed}
+use Rattle.rules.proofs.Bytes.Answered.{run_passed, run_refused}
 use Rattle.rules.proofs.Bytes.CompiledCode.{recipe_in_range, instructions_compiled, compiled_passes}
 use Rattle.rules.proofs.Theory.Demand.{demand}
-use Rattle.machine.proofs.Answering.{status_refused, stack_refused}
 use Rattle.salnegris.proofs.Accepted.{Passes, few_nodes, short_code}
 
 -- ---- a status and its number
@@ -36,6 +36,19 @@ use Rattle.salnegris.proofs.Accepted.{Passes, few_nodes, short_code}
 status_read_back : (i : Status) → (status_number i < 2) × (status_numbered (status_number i) ≡ i)
 status_read_back Blocked = (omega arith, refl)
 status_read_back Unblocked = (omega arith, refl)
+
+-- ---- the refusals 7 and 8
+
+module _ (status : ℕ) (code schedule stack : List ℕ) where
+  status_refused : 2 ≤ status → run_answer status code schedule stack ≡ refused_answer (record { reason = WrongStatus; place = 0 })
+  unfolding run_tests first_refusal unless
+  status_refused wrong = (run_refused status code schedule stack (rw (le-ltb status 2 wrong))).0
+
+  stack_refused : status < 2 → length stack < stack_bytes
+      → run_answer status code schedule stack ≡ refused_answer (record { reason = StackBuffer; place = 0 })
+  unfolding run_tests first_refusal unless
+  stack_refused right short =
+      (run_refused status code schedule stack (rw (lt-ltb status 2 right, lt-leb stack_bytes (length stack) short))).0
 
 -- ---- a code that compiling made
 
@@ -77,8 +90,8 @@ module _ {table buffer : List ℕ} (all : Passes table buffer) where
   unfolding outcome_refusal
   code_never_refused status schedule stack = elim (dec_lt status 2) [
     | yes right ↦ elim (dec_lt (length stack) stack_bytes) [
-      | yes short ↦ rw (sym (stack_refused status (bytes_of (code_of table)) schedule stack (omega arith) short).0) (omega arith)
+      | yes short ↦ rw (stack_refused status (bytes_of (code_of table)) schedule stack (omega arith) short) (omega arith)
       | no room ↦ omega (arith, no_refusal status right stack (omega arith) schedule)
     ]
-    | no wrong ↦ rw (sym (status_refused status (bytes_of (code_of table)) schedule stack (omega arith)).0) (omega arith)
+    | no wrong ↦ rw (status_refused status (bytes_of (code_of table)) schedule stack (omega arith)) (omega arith)
   ]

@@ -68,7 +68,6 @@ use Rattle.rules.specs.Compiling.{code_of}
 use Rattle.rules.specs.Demand as theory
 use Rattle.rules.specs.Demand.{of_expression, most_reached, Ends}
 use Rattle.rules.specs.declared.Answer.{Answer}
-use Rattle.rules.specs.declared.Outcome.TheVariants.{Ended}
 use Rattle.rules.proofs.Bytes.Answered.{compile_passed, compile_refused, evaluate_passed, run_passed, run_refused}
 use Rattle.rules.proofs.Computed.ExactBounds.{opened_one_accepted, just_nine_accepted, opened_one_cut, just_nine_cut}
 use Rattle.rules.proofs.Computed.ExactBounds.{just_nine_uncut, at_push, at_push_only}
@@ -80,6 +79,7 @@ use Rattle.salnegris.proofs.Accepted.{code_length_lem, code_answered, code_left,
 use Rattle.salnegris.proofs.CompiledRun.{recipe_demand, compiled_run, code_never_refused}
 use Rattle.salnegris.proofs.Inside.{compile_inside, run_inside}
 use Rattle.salnegris.proofs.salnegris_compile.Met as compile-proof
+use Rattle.std.specs.Prelude.{Ok}
 use Rattle.salnegris.proofs.salnegris_run.Met as run-proof
 
 -- ---- the words of this page
@@ -257,19 +257,19 @@ demand_2 = record {
 
 -- the end of a run, and its fields
 
-ended : (v : End) (a : Answer) → a.outcome ≡ Ended v → EndsIn v (answer_fields a)
+ended : (v : End) (a : Answer) → a.outcome ≡ Ok v → EndsIn v (answer_fields a)
 unfolding EndsIn outcome_kind outcome_number
 ended (Number k) a e = rw e (refl, refl)
 ended Throw a e = rw e
 
 -- by its fields an answer has one end
-number_once : (w : End) (a : Answer) {k : ℤ} → a.outcome ≡ Ended w → (answer_fields a).kind ≡ 0 → (answer_fields a).number ≡ k
+number_once : (w : End) (a : Answer) {k : ℤ} → a.outcome ≡ Ok w → (answer_fields a).kind ≡ 0 → (answer_fields a).number ≡ k
     → w ≡ Number k
 unfolding outcome_kind outcome_number
 number_once (Number m) a e kind number = ap Number (rw e at number)
 number_once Throw a e kind number = absurd (omega (arith, rw e at kind))
 
-throw_once : (w : End) (a : Answer) → a.outcome ≡ Ended w → (answer_fields a).kind ≡ 1 → w ≡ Throw
+throw_once : (w : End) (a : Answer) → a.outcome ≡ Ok w → (answer_fields a).kind ≡ 1 → w ≡ Throw
 unfolding outcome_kind
 throw_once (Number m) a e kind = absurd (omega (arith, rw e at kind))
 throw_once Throw a e kind = refl

@@ -5,15 +5,15 @@
 --   CompiledFits, AnswerFits         no field is too large for its 32 bits
 --
 -- Assumes nothing.
-use Rattle.std.specs.Prelude.{◌^◌, ◌<◌}
+use Rattle.std.specs.Prelude.{ℕ, ◌^◌, ◌<◌, Result}
 use Rattle.rules.specs.Answers.{outcome_kind, outcome_number, outcome_refusal, outcome_place}
 use Rattle.rules.specs.Answers.{compiled_length, compiled_refusal, compiled_place}
-use Rattle.rules.specs.declared.Compiled.{Compiled}
 use Rattle.rules.specs.declared.Answer.{Answer}
 use Rattle.salnegris.specs.declared.CompiledFields.{CompiledFields}
 use Rattle.salnegris.specs.declared.AnswerFields.{AnswerFields}
+use Rattle.rules.specs.declared.Refusal.{Refusal}
 
-abbrev pub compiled_fields : Compiled → CompiledFields
+abbrev pub compiled_fields : Result ℕ Refusal → CompiledFields
 compiled_fields c = record { length = compiled_length c; refusal = compiled_refusal c; place = compiled_place c }
 
 abbrev pub answer_fields : Answer → AnswerFields
@@ -26,7 +26,7 @@ answer_fields a = record {
   reached = a.reached;
 }
 
-pub record CompiledFits (c : Compiled) : Type 0 where
+pub record CompiledFits (c : Result ℕ Refusal) : Type 0 where
   pub length : compiled_length c < 2 ^ 32
   pub place : compiled_place c < 2 ^ 32
 

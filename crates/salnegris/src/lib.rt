@@ -9,7 +9,7 @@ ghost use Rattle.rules.specs.Compiling.{compile_answer, compile_leaves};
 ghost use Rattle.rules.specs.Running.{run_answer, run_leaves};
 ghost use Rattle.salnegris.specs.Fields.{compiled_fields, answer_fields};
 
-// What compiling answers, as numbers: "the code length in instructions, or 0 with the refusal".
+// What compiling answers, as numbers, which is the C interface: "the code length in instructions, or 0 with the refusal".
 #[repr(C)]
 #[derive(Drop)]
 pub struct CompiledFields {
@@ -18,7 +18,7 @@ pub struct CompiledFields {
     pub place: u32,
 }
 
-// What running answers, as numbers: "the kind of end (0 number, 1 throw, 2 refused), the number, the refusal, the place, the
+// What running answers, as numbers too: "the kind of end (0 number, 1 throw, 2 refused), the number, the refusal, the place, the
 // steps taken, and the instructions reached. Fields that don't apply are 0."
 #[repr(C)]
 #[derive(Drop)]
@@ -38,6 +38,7 @@ pub fn salnegris_compile(table: &[u8], code: &mut [u8]) -> CompiledFields
     fields::of_compiled(compiler::compile(table, code))
 }
 
+// A status is a byte here, as the C interface has it.
 pub fn salnegris_run(status: u8, code: &[u8], schedule: &[u8], stack: &mut [u8]) -> AnswerFields
     ensures answer { result ≡ answer_fields
         (run_answer status code.now schedule.now stack.old) }

@@ -1,4 +1,5 @@
-// What a worker links: the two functions of `salnegris`, exported to C. `include/salnegris.h` says the same for a C programmer.
+// What a worker links: the two functions of `salnegris`, exported to C under their names and clauses, so that each stands twice.
+// `include/salnegris.h` says the same for a C programmer.
 
 #![tactic(auto)]
 
@@ -17,6 +18,7 @@ pub extern "C" fn salnegris_compile(table: &[u8], code: &mut [u8]) -> CompiledFi
     salnegris::salnegris_compile(table, code)
 }
 
+// A status is a byte here, as the C interface has it.
 #[unsafe(no_mangle)]
 pub extern "C" fn salnegris_run(
     status: u8,

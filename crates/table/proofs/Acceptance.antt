@@ -1,7 +1,6 @@
 -- What acceptance says of a table, and what it says of the recipe that the table holds.
 --
 --   accepted        a table that passes the tests 1 to 5
---   record_inside   a node's record lies in the table
 --   says            what a node says
 --   node_below      a node below it is one too
 --   one_below, both_below
@@ -16,7 +15,6 @@
 use Prim.Native.Nat.{ℕ, ◌+◌, ◌*◌, ◌-◌, ◌≤◌, ◌<◌}
 use native.Mathlib.Omega.{arith}
 use borrow.Author.Tests.{eqb-true}
-use lib.ListN.{length}
 use mathlib.Core.Bool.{true}
 use mathlib.Core.List.{List, [], ◌∷◌}
 use mathlib.Core.Option.{none}
@@ -25,11 +23,9 @@ use Rattle.rules.specs.Bytes.{records}
 use Rattle.rules.specs.Checking.{check_answer}
 use Rattle.rules.specs.Code.{code_length}
 use Rattle.rules.specs.Expression.{nodes}
-use Rattle.rules.specs.Limits.{record_bytes}
 use Rattle.rules.specs.Recipe.{expression_at, recipe}
 use Rattle.rules.specs.Refusals.{first_refusal}
 use Rattle.rules.specs.Table.{node_at, all_below, node_test, use_test, table_tests}
-use Rattle.rules.specs.declared.Checked.TheVariants.{Accepted}
 use Rattle.rules.specs.declared.Node.{Node}
 use Rattle.rules.proofs.Theory.Holding.{code_length_nodes}
 use Rattle.rules.proofs.Bytes.Sizes.{whole_means}
@@ -39,6 +35,7 @@ use Rattle.table.specs.Acceptance.{AcceptedTable, AcceptedNode, Says}
 use Rattle.table.specs.Column.{column_sum}
 use Rattle.table.proofs.Counting.{nodes_counted, code_length_counted}
 use Rattle.table.proofs.Reading.{passed_below}
+use Rattle.std.specs.Prelude.{Ok}
 use Rattle.table.proofs.Unfolding.{below_cons, expression_at_unfolds}
 
 -- ---- the tests
@@ -63,9 +60,6 @@ accepted table e =
 -- ---- a node
 
 module _ {table : List ℕ} {j : ℕ} (here : AcceptedNode table j) where
-  pub record_inside : record_bytes * j + 7 < length table
-  record_inside = omega (arith, here.accepted.size, here.within)
-
   pub says : {read node : Node} → read ≡ node_at table j → read ≡ node → Says table j node
   says read told =
       let e = sym told ∙ read in
@@ -87,7 +81,7 @@ both_below j left right e =
 
 -- ---- the recipe
 
-module _ (table : List ℕ) {n : ℕ} (answer : check_answer table_tests table ≡ Accepted n) where
+module _ (table : List ℕ) {n : ℕ} (answer : check_answer table_tests table ≡ Ok n) where
   pub last_node : (1 ≤ n) × AcceptedNode table (n - 1)
   last_node =
       let (passed, all) = check_accepted table_tests table answer in

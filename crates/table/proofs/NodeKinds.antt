@@ -1,33 +1,42 @@
 -- The node of a record by its kind, and test 3 by the kind.
 --
---   node_of_kind      the node of a record, by the row of its kind
---   node_of_no_kind   and where it has none
---   unused_val, unused_throw, unused_pair, unused_scope
---                     the bytes that a kind does not use, added up: 0 exactly if each is 0
+--   kind_known     each kind has a row
+--   node_of_kind   the node of a record, by the row of its kind
+--   unused_val, unused_throw, unused_pair, unused_scope; unused_sums, the four of them
+--                  the bytes that a kind does not use, added up: 0 exactly if each is 0
 --
 -- Assumes nothing.
 use Prim.Native.Nat.{ℕ, ◌+◌, ◌*◌}
 use lib.Dec.{eqb}
 use mathlib.Core.Bool.{and-true, and_assoc}
 use mathlib.Core.List.{List, [], ◌∷◌}
-use mathlib.Core.Option.{none, some}
-use mathlib.Core.Path.{◌≡◌}
-use Rattle.rules.specs.Bytes.{byte_at, half_at, all_zero}
+use mathlib.Core.Option.{some}
+use mathlib.Core.Path.{◌≡◌, refl}
+use Rattle.rules.specs.Bytes.{byte_at, half_at, all_zero, row_numbered}
 use Rattle.rules.specs.Limits.{record_bytes}
-use Rattle.rules.specs.Table.{KindRow, kind_at, node_of, node_at}
-use Rattle.rules.specs.declared.Node.TheVariants.{Throw}
+use Rattle.rules.specs.Table.{KindRow, kinds, kind_at, node_of, node_at}
 use Rattle.rules.proofs.Bytes.Records.{zero_and, zero_half, zero_padding}
+use Rattle.rules.proofs.Lists.{RowKnown}
+use Rattle.table.specs.Kinds.{kind_number}
+use Rattle.table.specs.declared.kind.Kind.{Kind}
+use Rattle.table.specs.declared.kind.Kind.TheVariants.{Val, Throw, Add, Seqn, Catch, Block, Unblock}
 
 -- ---- nodes
+
+pub kind_known : (kind : Kind) → RowKnown kinds (kind_number kind)
+unfolding kinds row_numbered
+kind_known Val = record { row = _; found = refl }
+kind_known Throw = record { row = _; found = refl }
+kind_known Add = record { row = _; found = refl }
+kind_known Seqn = record { row = _; found = refl }
+kind_known Catch = record { row = _; found = refl }
+kind_known Block = record { row = _; found = refl }
+kind_known Unblock = record { row = _; found = refl }
 
 module _ (table : List ℕ) (j : ℕ) where
   pub node_of_kind : {row : KindRow} → kind_at table j ≡ some row → node_at table j ≡ node_of row table (record_bytes * j)
   unfolding node_at
   node_of_kind found = rw (found, node_at)
-
-  pub node_of_no_kind : kind_at table j ≡ none → node_at table j ≡ Throw
-  unfolding node_at
-  node_of_no_kind missing = rw (missing, node_at)
 
 -- ---- unused bytes, from the fields that were read
 
@@ -62,3 +71,5 @@ module _ (table : List ℕ) (base : ℕ) {second left right last : ℕ}
   unused_scope =
       rw (one, four, six)
       (simp (zero_and, and_assoc) (rw (zero_half table base 4 (6 ∷ 7 ∷ []), zero_half table base 6 [], and-true)))
+
+pub ruleset unused_sums = (unused_val, unused_throw, unused_pair, unused_scope)

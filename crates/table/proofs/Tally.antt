@@ -1,7 +1,5 @@
 -- How often each node is an operand, counted as the walk over the nodes comes to it.
 --
---   room_first, room_one, room_rest
---                           what can be counted, one node after another
 --   none_counted            before the walk
 --   node_room, node_counted
 --                           one node further
@@ -11,17 +9,18 @@
 --
 -- Assumes nothing.
 use Prim.Native.Nat.{ℕ, zero, suc, ◌+◌, ◌*◌, ◌≤◌, ◌<◌}
-use native.Mathlib.Decide.{ℕ_discrete, dec_lt}
+use native.Mathlib.Decide.{dec_lt}
 use native.Mathlib.Numerals.{add-one}
 use native.Mathlib.Omega.{arith}
-use borrow.Author.Tests.{lt-ltb, eq-eqb, ne_eqb}
+use borrow.Author.Tests.{eq-eqb, ne_eqb}
 use lib.Dec.{eqb}
 use lib.ListN.{length, get_or, set, length-set, replicate, length-replicate, get_or-replicate, get_or-eq_default}
-use lib.Seq.{get_or-set_same, get_or-set_other}
 use mathlib.Core.Bool.{true, cond}
 use mathlib.Core.List.{List, [], ◌∷◌}
 use mathlib.Core.Option.{none, some}
 use mathlib.Core.Path.{◌≡◌, refl, ◌∙◌}
+use Rattle.std.proofs.lemmas.Grind.{common_steps}
+use Rattle.std.proofs.lemmas.Bool.Decides.{nat_tests}
 use Rattle.rules.specs.Bytes.{records}
 use Rattle.rules.specs.Limits.{node_limit}
 use Rattle.rules.specs.Refusals.{unless, lowest_refusal}
@@ -38,29 +37,10 @@ use Rattle.table.proofs.Unfolding.{below_cons, below_more}
 -- the count at k, when i is used once more
 count_more : (counts : List ℕ) (i k : ℕ) → i < length counts
     → get_or (set counts i (get_or counts i 0 + 1)) k 0 ≡ get_or counts k 0 + cond (eqb k i) 1 0
-count_more counts i k h = elim (ℕ_discrete k i) [
-  | yes same ↦ rw (same, eq-eqb i i refl) (get_or-set_same counts i (get_or counts i 0 + 1) 0 h)
-  | no other ↦ rw (ne_eqb k i other) (get_or-set_other counts i k (get_or counts i 0 + 1) 0 other ∙ omega arith)
-]
+count_more counts i k h = grind (arith, common_steps)
 
 one_at_most : (k i : ℕ) → cond (eqb k i) 1 0 ≤ 1
-one_at_most k i =
-    elim (ℕ_discrete k i) [ yes same ↦ rw (eq-eqb k i same) (omega arith) | no other ↦ rw (ne_eqb k i other) (omega arith) ]
-
-module _ {counts : List ℕ} {k : ℕ} {ks : List ℕ} (room : Room counts (k ∷ ks)) where
-  pub room_first : k < length counts
-  room_first = (below_cons (length counts) k ks room.places).0
-
-  pub room_one : Room counts (k ∷ [])
-  unfolding all_below
-  room_one = record { places = rw (lt-ltb k (length counts) room_first); low = λ i. omega (arith, room.low i) }
-
-  pub room_rest : Room (counted counts (k ∷ [])) ks
-  unfolding counted
-  room_rest = record {
-    places = rw length-set (below_cons (length counts) k ks room.places).1;
-    low = λ i. rw (count_more counts k i room_first) (omega (arith, room.low i, one_at_most i k));
-  }
+one_at_most k i = grind (arith, nat_tests)
 
 -- ---- the walk over the nodes
 
@@ -118,7 +98,10 @@ module _ {table : List ℕ} {j : ℕ} {counts : List ℕ} (so_far : CountsUses t
   ]
 
   pub node_room : Room counts (operands_of (node_at table j))
-  node_room = record { places = places; low = λ k. omega (arith, count_few k, few_operands (node_at table j)) }
+  node_room = record {
+    places = below_more (operands_of (node_at table j)) (omega arith) below;
+    low = λ k. omega (arith, count_few k, few_operands (node_at table j));
+  }
 
   pub node_counted : CountsUses table (j + 1) (counted counts (operands_of (node_at table j)))
   unfolding uses
@@ -138,10 +121,10 @@ module _ (counts : List ℕ) (k : ℕ) where
   unfolding count_test unless
   count_right right = rw (eq-eqb (get_or counts k 0) 1 right)
 
-module _ {table counts : List ℕ} (all : CountsUses table (records table) counts) where
+module _ {table counts : List ℕ} {n : ℕ} (all : n ≡ records table) (tally : CountsUses table n counts) where
   counted_test : (k : ℕ) → k < node_limit → count_test counts k ≡ use_test table k
   unfolding count_test use_test
-  counted_test k h = rw (all.count k h)
+  counted_test k h = rw (← all, tally.count k h)
 
   pub counted_tests : (m : ℕ) → m ≤ node_limit → lowest_refusal (count_test counts) m ≡ lowest_refusal (use_test table) m
   counted_tests m h = lowest_same (count_test counts) (use_test table) m (λ k b. counted_test k (omega arith))

@@ -1,21 +1,17 @@
--- How often each node is an operand, in an array of counts: what the functions that count and test it promise one another
--- (document 01, "every node but the last is an operand exactly once").
+-- How often each node is an operand, in a count for each that a table can have (document 01, "every node but the last is an operand
+-- exactly once").
 --
---   counted        counts, with each of these nodes used once more
---   Room           these nodes can be counted: they have a place, and no count comes to its end
---   CountsUses     the counts are those of the first n nodes
---   count_test     test 5, on counts
---   Countable, NodesChecked
---                  what the walk over the nodes asks, and what it comes to
+--   counted      counts, with each of these nodes used once more
+--   Room         these nodes can be counted: they have a place, and no count comes to its end
+--   CountsUses   the counts are those of the first n nodes
+--   count_test   test 5, on counts
 --
 -- Assumes nothing.
-use Rattle.std.specs.Prelude.{ℕ, ◌+◌, ◌*◌, ◌^◌, ◌≤◌, ◌<◌, eqb, length, get_or, set, true, List, [], ◌∷◌, ◌≡◌}
-use Rattle.std.proofs.Math.Option.{Option, none}
-use Rattle.rules.specs.Limits.{record_bytes, node_limit}
-use Rattle.rules.specs.Checking.{checked_by}
-use Rattle.rules.specs.Refusals.{unless, lowest_refusal}
-use Rattle.rules.specs.Table.{node_test, all_below, uses}
-use Rattle.rules.specs.declared.Checked.{Checked}
+use Rattle.std.specs.Prelude.{ℕ, ◌+◌, ◌^◌, ◌<◌, eqb, length, get_or, set, true, List, [], ◌∷◌, ◌≡◌}
+use Rattle.std.proofs.Math.Option.{Option}
+use Rattle.rules.specs.Limits.{node_limit}
+use Rattle.rules.specs.Refusals.{unless}
+use Rattle.rules.specs.Table.{all_below, uses}
 use Rattle.rules.specs.declared.Reason.TheVariants.{Uses}
 use Rattle.rules.specs.declared.Refusal.{Refusal}
 
@@ -24,7 +20,7 @@ counted counts [] = counts
 counted counts (k ∷ ks) = counted (set counts k (get_or counts k 0 + 1)) ks
 
 pub record Room (counts nodes : List ℕ) : Type 0 where
-  pub places : all_below (length counts) nodes ≡ true
+  pub places : all_below node_limit nodes ≡ true
   pub low : (k : ℕ) → get_or counts k 0 + length nodes < 2 ^ 16
 
 pub record CountsUses (table : List ℕ) (n : ℕ) (counts : List ℕ) : Type 0 where
@@ -33,14 +29,3 @@ pub record CountsUses (table : List ℕ) (n : ℕ) (counts : List ℕ) : Type 0 
 
 unfoldable pub count_test : List ℕ → ℕ → Option Refusal
 count_test counts k = unless (eqb (get_or counts k 0) 1) Uses k
-
--- ---- the walk over the nodes
-
-pub record Countable (table : List ℕ) (n : ℕ) (counts : List ℕ) : Type 0 where
-  pub size : length table ≡ record_bytes * n
-  pub few : n ≤ node_limit
-  pub none : CountsUses table 0 counts
-
-pub record NodesChecked (table : List ℕ) (n : ℕ) (r : Checked) (counts : List ℕ) : Type 0 where
-  pub answer : r ≡ checked_by n (lowest_refusal (node_test table) n)
-  pub counted : lowest_refusal (node_test table) n ≡ none → CountsUses table n counts

@@ -1,4 +1,5 @@
 pub mod Acceptance
 pub mod Column
 pub mod Counts
+pub mod Kinds
 pub mod Reading

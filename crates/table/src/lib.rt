@@ -2,50 +2,29 @@
 
 #![tactic(auto)]
 
+mod kind;
 pub mod node;
 mod uses;
 
 ghost use Rattle.std.specs.Prelude.{◌≡◌};
 ghost use Rattle.rules.specs.Checking.{check_answer};
 ghost use Rattle.rules.specs.Table.{table_tests};
-ghost use Rattle.table.specs.Counts.{Countable, NodesChecked};
 
-use node::Reading;
-use rules::{Checked, Reason, Refusal};
+use rules::{Reason, Refusal};
+use uses::Uses;
 
 // A table has at most 4,096 bytes, eight for each node.
 const NODES: usize = 512;
 
-// "Tests 1; then each node upward for 2, 3, 4; then 5."
-pub fn check(table: &[u8]) -> Checked
+// "Tests 1; then each node upward for 2, 3, 4; then 5." (The walk over a code counts nothing; one for both would ask more than these
+// lines.)
+pub fn check(table: &[u8]) -> Result<usize, Refusal>
     ensures { result ≡ check_answer table_tests table.now }
 {
-    if !record::size::whole(table, NODES) {
-        return Checked::Refused(Refusal {
-            reason: Reason::TableSize,
-            place: 0,
-        });
+    let nodes = record::size::whole(table, NODES).ok_or(Reason::TableSize.at(0))?;
+    let mut uses = Uses::none();
+    for j in 0..nodes {
+        uses.count(node::read(table, j)?);
     }
-    let nodes = table.len() / 8;
-    let mut counts = [0u16; NODES];
-    match check_nodes(table, nodes, &mut counts) {
-        Checked::Accepted(_) => uses::check(&counts, nodes),
-        Checked::Refused(r) => Checked::Refused(r),
-    }
-}
-
-// The tests 2, 3 and 4 of each node upward, with the uses counted on the way.
-fn check_nodes(table: &[u8], nodes: usize, counts: &mut [u16]) -> Checked
-    requires { Countable table.now nodes counts.old }
-    ensures { NodesChecked table.now nodes result counts.new }
-{
-    let mut j: usize = 0;
-    while j < nodes {
-        match node::read(table, j) {
-            Reading::Sound(operands) => uses::count(counts, operands),
-            Reading::Refused(r) => return Checked::Refused(r),
-        }
-        j += 1;
-    }
-    Checked::Accepted(nodes)
+    uses.check(nodes)
 }

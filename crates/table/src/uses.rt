@@ -1,51 +1,54 @@
-// How often each node is an operand, counted in a lent array, and test 5 on the counts (document 01, "The recipe table").
+// How often each node is an operand, and test 5 on the counts (document 01, "The recipe table").
 
-ghost use Rattle.std.specs.Prelude.{◌≡◌, ◌-◌, ◌≤◌, [], ◌∷◌, length};
+ghost use Rattle.std.specs.Prelude.{◌≡◌, ◌-◌, ◌≤◌, replicate};
 ghost use Rattle.rules.specs.Checking.{checked_by};
+ghost use Rattle.rules.specs.Limits.{node_limit};
 ghost use Rattle.rules.specs.Refusals.{lowest_refusal};
 ghost use Rattle.table.specs.Counts.{count_test, counted, Room};
 ghost use Rattle.table.specs.Reading.{named};
 
+use super::NODES;
 use super::node::Operands;
-use rules::{Checked, Reason, Refusal};
+use rules::{Reason, Refusal};
 
-// Each node that is named is used once more.
-pub(crate) fn count(counts: &mut [u16], operands: Operands)
-    requires { Room counts.old (named operands) }
-    ensures { counts.new ≡ counted counts.old (named operands) }
-{
-    match operands {
-        Operands::None => {}
-        Operands::One(k) => count_one(counts, k),
-        Operands::Two(left, right) => {
-            count_one(counts, left);
-            count_one(counts, right);
-        }
-    }
+#[derive(Drop)]
+pub(crate) struct Uses {
+    counts: [u16; NODES],
 }
 
-fn count_one(counts: &mut [u16], node: usize)
-    requires { Room counts.old (node ∷ []) }
-    ensures { counts.new ≡ counted counts.old (node ∷ []) }
-{
-    counts[node] += 1;
-}
-
-// "Every node but the last is an operand exactly once."
-pub(crate) fn check(counts: &[u16], nodes: usize) -> Checked
-    requires { (1 ≤ nodes) × (nodes ≤ length counts.now) }
-    ensures { result ≡ checked_by nodes (lowest_refusal (count_test counts.now) (nodes - 1)) }
-{
-    let last = nodes - 1;
-    let mut k: usize = 0;
-    while k < last {
-        if counts[k] != 1 {
-            return Checked::Refused(Refusal {
-                reason: Reason::Uses,
-                place: k,
-            });
-        }
-        k += 1;
+impl Uses {
+    pub(crate) fn none() -> Self
+        ensures { result.counts ≡ replicate node_limit 0 }
+    {
+        Uses { counts: [0; NODES] }
     }
-    Checked::Accepted(nodes)
+
+    // Each node that is named is used once more.
+    #[tactic(auto, unfolding(crate::specs::Counts::counted, rules::specs::Table::all_below))]
+    pub(crate) fn count(&mut self, operands: Operands)
+        requires { Room self.old.counts (named operands) }
+        ensures { self.new.counts ≡ counted self.old.counts (named operands) }
+    {
+        match operands {
+            Operands::None => {}
+            Operands::One(k) => self.counts[k] += 1,
+            Operands::Two(left, right) => {
+                self.counts[left] += 1;
+                self.counts[right] += 1;
+            }
+        }
+    }
+
+    // "Every node but the last is an operand exactly once."
+    pub(crate) fn check(&self, nodes: usize) -> Result<usize, Refusal>
+        requires { (1 ≤ nodes) × (nodes ≤ node_limit) }
+        ensures { result ≡ checked_by nodes (lowest_refusal (count_test self.now.counts) (nodes - 1)) }
+    {
+        for (k, count) in self.counts[..nodes - 1].iter().enumerate() {
+            if *count != 1 {
+                return Err(Reason::Uses.at(k));
+            }
+        }
+        Ok(nodes)
+    }
 }

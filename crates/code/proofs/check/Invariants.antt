@@ -1,5 +1,4 @@
--- `code::check`: the instructions before a have passed, and there are so many left. Assumes nothing.
-use Prim.Native.Nat.{◌-◌}
+-- `code::check`: the instructions before a have passed. Assumes nothing.
 use Rattle.rules.specs.Bytes.{records}
 use Rattle.rules.specs.CodeBytes.{instruction_test}
 use Rattle.rules.proofs.Checking.{Walked}
@@ -7,6 +6,3 @@ use Rattle.code.proofs.check.Given as goal
 
 abbrev pub invariant-loop-a : goal.invariant-loop-a
 invariant-loop-a l = Walked (instruction_test l.code) (records l.code) l.a
-
-abbrev pub decreases-loop-a : goal.decreases-loop-a
-decreases-loop-a l = l.length - l.a

@@ -23,8 +23,6 @@ use Rattle.rules.specs.Running.{run_tests, run_answer}
 use Rattle.rules.specs.Schedule.{asks}
 use Rattle.rules.specs.declared.Answer.{Answer}
 use Rattle.rules.specs.declared.Instruction.{Instruction}
-use Rattle.rules.specs.declared.Outcome.{Outcome}
-use Rattle.rules.specs.declared.Outcome.TheVariants.{Refused}
 use Rattle.rules.specs.declared.Refusal.{Refusal}
 use Rattle.rules.specs.declared.Status.{Status}
 use Rattle.rules.proofs.Step.Addresses.{Within, Bounded, step_within}
@@ -34,7 +32,9 @@ use Rattle.rules.proofs.Bytes.Instructions.{length_instructions}
 use Rattle.rules.proofs.Step.Order.{run_next, run_stuck, run_limit_next, run_limit_stuck, run_over}
 use Rattle.rules.proofs.Bytes.RefusedPlaces.{RefusesBelow, passes, refuses, compiling_below, accepted_few, running_below}
 use Rattle.rules.proofs.Step.Bounds.{Limited, step_limited}
+use Rattle.std.specs.Prelude.{Result, Err}
 use Rattle.rules.proofs.Refusals.{first_none}
+use Rattle.rules.specs.declared.End.{End}
 
 -- ---- compiling
 
@@ -64,7 +64,7 @@ record Underway (n left : ℕ) (s : State) : Type 0 where
 module _ {n : ℕ} {code : List Instruction} (bounded : Bounded n code) (long : length code ≤ n) (few : n ≤ instruction_limit)
     (placing : Placing) where
   module _ {left : ℕ} {s : State} (underway : Underway n left s) where
-    answer_small : (o : Outcome) → outcome_place o ≤ n → Small (answer s o)
+    answer_small : (o : Result End Refusal) → outcome_place o ≤ n → Small (answer s o)
     answer_small o low = omega (arith, underway)
 
     limit_small : Small (answer s too_many_steps)
@@ -94,7 +94,7 @@ module _ {n : ℕ} {code : List Instruction} (bounded : Bounded n code) (long : 
   small_before_limit {left} {s} underway later (Over o) e limited =
       rw (run_over code placing s (suc left) e) (answer_small underway o limited)
   small_before_limit {left} {s} underway later (Stuck r) e limited =
-      rw (run_stuck code placing s left e) (answer_small underway (Refused r) limited)
+      rw (run_stuck code placing s left e) (answer_small underway (Err r) limited)
 
   underway_small : (left : ℕ) (s : State) → Underway n left s → Small (run code placing left s)
   underway_small zero s underway = small_at_limit underway (step code placing s) refl (limited_here underway)

@@ -24,29 +24,27 @@ use Rattle.rules.specs.Run.{runs}
 use Rattle.rules.specs.Running.{run_tests, refused_answer, run_answer, run_leaves}
 use Rattle.rules.specs.Schedule.{asks}
 use Rattle.rules.specs.Table.{table_tests}
-use Rattle.rules.specs.declared.Compiled.TheVariants.{Length, Refused}
-use Rattle.rules.specs.declared.Outcome.{Outcome}
-use Rattle.rules.specs.declared.Outcome.TheVariants.{Ended}
+use Rattle.std.specs.Prelude.{Ok, Err}
 use Rattle.rules.specs.declared.Refusal.{Refusal}
 
 module _ (table buffer : List ℕ) where
   pub compile_passed : first_refusal (compile_tests table buffer) ≡ none
-      → (compile_answer table buffer ≡ Length (code_length (recipe table)))
+      → (compile_answer table buffer ≡ Ok (code_length (recipe table)))
       × (compile_leaves table buffer ≡ bytes_of (code_of table) ++ drop (record_bytes * code_length (recipe table)) buffer)
   unfolding compile_answer compile_leaves
   compile_passed e = (rw (e, compile_answer), rw (e, compile_leaves))
 
   pub compile_refused : {r : Refusal} → first_refusal (compile_tests table buffer) ≡ some r
-      → (compile_answer table buffer ≡ Refused r) × (compile_leaves table buffer ≡ buffer)
+      → (compile_answer table buffer ≡ Err r) × (compile_leaves table buffer ≡ buffer)
   unfolding compile_answer compile_leaves
   compile_refused e = (rw (e, compile_answer), rw (e, compile_leaves))
 
 module _ (table : List ℕ) where
-  pub evaluate_passed : first_refusal (table_tests table) ≡ none → evaluate_answer table ≡ Ended (quiet (recipe table))
+  pub evaluate_passed : first_refusal (table_tests table) ≡ none → evaluate_answer table ≡ Ok (quiet (recipe table))
   unfolding evaluate_answer
   evaluate_passed e = rw (e, evaluate_answer)
 
-  pub evaluate_refused : {r : Refusal} → first_refusal (table_tests table) ≡ some r → evaluate_answer table ≡ Outcome.Refused r
+  pub evaluate_refused : {r : Refusal} → first_refusal (table_tests table) ≡ some r → evaluate_answer table ≡ Err r
   unfolding evaluate_answer
   evaluate_refused e = rw (e, evaluate_answer)
 

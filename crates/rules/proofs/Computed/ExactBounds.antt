@@ -29,10 +29,10 @@ use Rattle.rules.specs.Running.{run_tests, run_answer}
 use Rattle.rules.specs.Schedule.{asks}
 use Rattle.rules.specs.declared.Answer.{Answer}
 use Rattle.rules.specs.declared.End.{End}
-use Rattle.rules.specs.declared.Outcome.TheVariants.{Ended}
 use Rattle.rules.specs.declared.Status.{Status}
 use Rattle.rules.specs.declared.Status.TheVariants.{Blocked, Unblocked}
 use Rattle.rules.proofs.Bytes.Answered.{run_passed}
+use Rattle.std.specs.Prelude.{Ok}
 use Rattle.rules.proofs.Computed.Computing.{computing}
 
 -- enough for the three instructions of Unblock (Val 1)
@@ -61,7 +61,7 @@ abbrev pub recall_at_reset : List ℕ
 recall_at_reset = 0b00000100 ∷ []
 
 -- three instructions reached, then the number dropped and the status restored
-pub opened_one_cut : under opened_one Blocked recall_at_reset ≡ record { outcome = Ended End.Throw; steps = 5; reached = 3 }
+pub opened_one_cut : under opened_one Blocked recall_at_reset ≡ record { outcome = Ok End.Throw; steps = 5; reached = 3 }
 unfolding computing
 opened_one_cut = refl
 
@@ -92,18 +92,18 @@ module _ (schedule : List ℕ) where
   unfolding computing
   ran_under placing asked e = (run_passed 1 nine schedule stack_buffer passed).0 ∙ rw asked e
 
-  cut_there : runs (instructions nine) at_push Unblocked ≡ record { outcome = Ended End.Throw; steps = 1; reached = 1 }
+  cut_there : runs (instructions nine) at_push Unblocked ≡ record { outcome = Ok End.Throw; steps = 1; reached = 1 }
   unfolding computing
   cut_there = refl
 
   pub just_nine_cut : asks schedule ≡ at_push
-      → under just_nine Unblocked schedule ≡ record { outcome = Ended End.Throw; steps = 1; reached = 1 }
+      → under just_nine Unblocked schedule ≡ record { outcome = Ok End.Throw; steps = 1; reached = 1 }
   just_nine_cut asked = ran_under at_push asked cut_there
 
-  uncut : runs (instructions nine) no_recall Unblocked ≡ record { outcome = Ended (End.Number (pos 9)); steps = 1; reached = 1 }
+  uncut : runs (instructions nine) no_recall Unblocked ≡ record { outcome = Ok (End.Number (pos 9)); steps = 1; reached = 1 }
   unfolding computing
   uncut = refl
 
   pub just_nine_uncut : AsksNothingFrom 0 (asks schedule)
-      → under just_nine Unblocked schedule ≡ record { outcome = Ended (End.Number (pos 9)); steps = 1; reached = 1 }
+      → under just_nine Unblocked schedule ≡ record { outcome = Ok (End.Number (pos 9)); steps = 1; reached = 1 }
   just_nine_uncut silent = ran_under no_recall (fun_ext λ k. silent k (omega arith)) uncut

@@ -16,10 +16,10 @@ use Rattle.rules.specs.declared.Status.TheVariants.{Unblocked}
 use Rattle.rules.specs.declared.Instruction.{Instruction}
 use Rattle.rules.specs.declared.Instruction.TheVariants.{Push, Throw, Pop, Mark, Reset}
 use Rattle.rules.specs.declared.End.{End}
-use Rattle.rules.specs.declared.Outcome.TheVariants.{Ended, Refused}
 use Rattle.rules.specs.declared.Reason.{Reason}
 use Rattle.rules.specs.declared.Reason.TheVariants.{StackFull, NoRule, Steps}
 use Rattle.rules.specs.declared.Answer.{Answer}
+use Rattle.std.specs.Prelude.{Ok, Err}
 use Rattle.rules.proofs.Computed.Computing.{computing}
 
 record Foreign : Type 0 where
@@ -31,7 +31,7 @@ comes code answer = record { code = code; answer = answer }
 
 abbrev refused : Reason → ℕ → ℕ → ℕ → Answer
 refused reason place steps reached =
-    record { outcome = Refused (record { reason = reason; place = place }); steps = steps; reached = reached }
+    record { outcome = Err (record { reason = reason; place = place }); steps = steps; reached = reached }
 
 abbrev push : Instruction
 push = Push (pos 1)
@@ -48,7 +48,7 @@ foreign_codes =
     comes (replicate 512 push) (refused NoRule 512 512 512)
     ∷ comes (replicate 513 push) (refused StackFull 512 512 512)
     ∷ comes (Pop ∷ []) (refused NoRule 0 0 0)
-    ∷ comes (marks 0 9) (record { outcome = Ended End.Throw; steps = 1534; reached = 1023 })
+    ∷ comes (marks 0 9) (record { outcome = Ok End.Throw; steps = 1534; reached = 1023 })
     ∷ comes (marks 0 10) (refused Steps 0 1535 1024)
     ∷ []
 
@@ -77,7 +77,7 @@ limit_codes =
     -- at the length: a number, and five numbers
     comes
     (late (push ∷ Pop ∷ push ∷ Pop ∷ push ∷ []))
-    (record { outcome = Ended (End.Number (pos 1)); steps = 1535; reached = 1025 })
+    (record { outcome = Ok (End.Number (pos 1)); steps = 1535; reached = 1025 })
     ∷ comes (late (replicate 5 push)) (refused NoRule 57 1535 1025)
     -- at an instruction: one that could be carried out, one with no rule, and a push onto 512 items
     ∷ comes (late (replicate 6 push)) (refused Steps 0 1535 1025)

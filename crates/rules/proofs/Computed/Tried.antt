@@ -21,9 +21,10 @@ use Rattle.rules.specs.Limits.{table_limit, code_limit}
 use Rattle.rules.specs.Number.{sum}
 use Rattle.rules.specs.Rehearsed.{eight, tree_a}
 use Rattle.rules.specs.Running.{run_answer, run_leaves}
-use Rattle.rules.specs.declared.Compiled.{Compiled}
 use Rattle.rules.specs.declared.Answer.{Answer}
+use Rattle.std.specs.Prelude.{Result}
 use Rattle.rules.proofs.Computed.Computing.{computing}
+use Rattle.rules.specs.declared.Refusal.{Refusal}
 
 -- ---- sums: "exact at both ends of the range" (document 01, "Places and their forms")
 
@@ -114,7 +115,7 @@ tables =
     ∷ table (val ++ eight 6 0 0 0 0 0 0 0) 24 3 0 0
     ∷ []
 
-compile_fields : Compiled → List ℕ
+compile_fields : Result ℕ Refusal → List ℕ
 compile_fields a = compiled_length a ∷ compiled_refusal a ∷ compiled_place a ∷ []
 
 tables_tried : map (λ c. compile_fields (compile_answer c.table (replicate c.room 170))) tables ≡ map (λ c. c.answer) tables

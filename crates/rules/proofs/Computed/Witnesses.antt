@@ -16,8 +16,8 @@ use Rattle.rules.specs.Machine.{Placing}
 use Rattle.rules.specs.declared.Status.{Status}
 use Rattle.rules.specs.declared.Status.TheVariants.{Blocked, Unblocked}
 use Rattle.rules.specs.declared.End.{End}
-use Rattle.rules.specs.declared.Outcome.TheVariants.{Ended}
 use Rattle.rules.specs.declared.Answer.{Answer}
+use Rattle.std.specs.Prelude.{Ok}
 use Rattle.rules.proofs.Computed.Computing.{computing}
 
 record Witness : Type 0 where
@@ -28,7 +28,7 @@ record Witness : Type 0 where
 
 abbrev comes : Expression → Status → ℕ → End → ℕ → ℕ → Witness
 comes e i k v steps reached =
-    record { recipe = e; status = i; recall = k; answer = record { outcome = Ended v; steps = steps; reached = reached } }
+    record { recipe = e; status = i; recall = k; answer = record { outcome = Ok v; steps = steps; reached = reached } }
 
 -- one recall, at an instruction reached
 recall_at : ℕ → Placing
@@ -59,6 +59,6 @@ unfolding computing recall_at witnesses
 as_witnessed = refl
 
 bounds_met : of_expression (Unblock one) (recall_at 2) Blocked
-    ≡ record { outcome = Ended End.Throw; steps = most_steps (Unblock one); reached = most_reached (Unblock one) }
+    ≡ record { outcome = Ok End.Throw; steps = most_steps (Unblock one); reached = most_reached (Unblock one) }
 unfolding computing recall_at
 bounds_met = refl

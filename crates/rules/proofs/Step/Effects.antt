@@ -31,8 +31,8 @@ use Rattle.rules.specs.declared.Instruction.{Instruction}
 use Rattle.rules.specs.declared.Instruction.TheVariants.{Push, Throw, Add, Pop, Mark, Unmark, Set, Reset}
 use Rattle.rules.specs.declared.Item.{Item}
 use Rattle.rules.specs.declared.Item.TheVariants.{Number, Handler, Saved}
-use Rattle.rules.specs.declared.Outcome.TheVariants.{Ended, Refused}
 use Rattle.rules.specs.declared.Reason.{Reason}
+use Rattle.std.specs.Prelude.{Ok, Err}
 use Rattle.rules.specs.declared.Status.{Status}
 
 -- ---- an instruction
@@ -144,7 +144,7 @@ module _ (s : State) where
   pub data Unwound : List Item → Step → Type 0 where
     removed : {item : Item} {rest : List Item} {m : Mode} {j : Status} → Undoes s.status item m j
         → Unwound (item ∷ rest) (unwound s m j rest)
-    empty : Unwound [] (Over (Ended End.Throw))
+    empty : Unwound [] (Over (Ok End.Throw))
 
   pub unwound_effect : (items : List Item) → Unwound items (unwind s items)
   unfolding unwind
@@ -160,8 +160,8 @@ module _ (code : List Instruction) (s : State) where
     instruction : {a : ℕ} {x : Instruction} {step : Step} → get_elem? code a ≡ some x → Effect x a s step
         → Stepped (Running a) step
     -- at the length
-    ended : {a : ℕ} {n : ℤ} → Stepped (Running a) (Over (Ended (End.Number n)))
-    unended : {a : ℕ} → Stepped (Running a) (Over (Refused (no_rule a)))
+    ended : {a : ℕ} {n : ℤ} → Stepped (Running a) (Over (Ok (End.Number n)))
+    unended : {a : ℕ} → Stepped (Running a) (Over (Err (no_rule a)))
     unwinding : {items : List Item} {step : Step} → s.items ≡ items → Unwound s items step → Stepped Unwinding step
 
   at_length_effect : (a : ℕ) → Stepped (Running a) (at_length s a)

@@ -24,9 +24,9 @@ use Rattle.rules.specs.Run.{answer, too_many_steps, run}
 use Rattle.rules.specs.declared.Status.{Status}
 use Rattle.rules.specs.declared.Instruction.{Instruction}
 use Rattle.rules.specs.declared.Item.{Item}
-use Rattle.rules.specs.declared.Outcome.{Outcome}
-use Rattle.rules.specs.declared.Outcome.TheVariants.{Refused}
+use Rattle.std.specs.Prelude.{Result, Err}
 use Rattle.rules.specs.declared.Refusal.{Refusal}
+use Rattle.rules.specs.declared.End.{End}
 
 abbrev pub running : ℕ → Status → List Item → ℕ → ℕ → State
 running a i s t r = record { mode = Running a; status = i; items = s; steps = t; reached = r }
@@ -53,7 +53,7 @@ module _ (code : List Instruction) (placing : Placing) (s : State) where
   unfolding run
   run_next left e = rw (e, run)
 
-  pub run_stuck : (left : ℕ) {r : Refusal} → step code placing s ≡ Stuck r → run code placing (suc left) s ≡ answer s (Refused r)
+  pub run_stuck : (left : ℕ) {r : Refusal} → step code placing s ≡ Stuck r → run code placing (suc left) s ≡ answer s (Err r)
   unfolding run
   run_stuck left e = rw (e, run)
 
@@ -65,7 +65,7 @@ module _ (code : List Instruction) (placing : Placing) (s : State) where
   unfolding run
   run_limit_stuck e = rw (e, run)
 
-  pub run_over : (left : ℕ) {o : Outcome} → step code placing s ≡ Over o → run code placing left s ≡ answer s o
+  pub run_over : (left : ℕ) {o : Result End Refusal} → step code placing s ≡ Over o → run code placing left s ≡ answer s o
   unfolding run
   run_over zero e = rw (e, run)
   run_over (suc left) e = rw (e, run)

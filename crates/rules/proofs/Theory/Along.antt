@@ -21,25 +21,25 @@ use Rattle.rules.specs.declared.Status.{Status}
 use Rattle.rules.specs.declared.Instruction.{Instruction}
 use Rattle.rules.specs.declared.Item.TheVariants.{Number}
 use Rattle.rules.specs.declared.End.{End}
-use Rattle.rules.specs.declared.Outcome.{Outcome}
-use Rattle.rules.specs.declared.Outcome.TheVariants.{Ended}
 use Rattle.rules.proofs.Lists.{missing_past}
 use Rattle.rules.proofs.Step.Order.{running, unwinding, run_next, run_over}
 use Rattle.rules.proofs.Step.States.{Meets, here, later}
+use Rattle.std.specs.Prelude.{Result, Ok}
 use Rattle.rules.proofs.Theory.Path.{Goes, Path, done, ◌▸◌}
+use Rattle.rules.specs.declared.Refusal.{Refusal}
 
 -- ---- where a path is over
 
-pub record Finishes (code : List Instruction) (placing : Placing) (s : State) (o : Outcome) : Type 0 where
+pub record Finishes (code : List Instruction) (placing : Placing) (s : State) (o : Result End Refusal) : Type 0 where
   pub over : step code placing s ≡ Over o
 
 module _ {code : List Instruction} {placing : Placing} {i : Status} {t r : ℕ} where
   pub number_finishes : {a : ℕ} {n : ℤ} → length code ≤ a
-      → Finishes code placing (running a i (Number n ∷ []) t r) (Ended (End.Number n))
+      → Finishes code placing (running a i (Number n ∷ []) t r) (Ok (End.Number n))
   unfolding step step_in step_at at_length with_number with_nothing
   number_finishes {a = a} h = record { over = rw (missing_past code a h, step_at) }
 
-  pub throw_finishes : Finishes code placing (unwinding i [] t r) (Ended End.Throw)
+  pub throw_finishes : Finishes code placing (unwinding i [] t r) (Ok End.Throw)
   unfolding step step_in unwind
   throw_finishes = record { over = refl }
 
@@ -57,7 +57,7 @@ module _ {code : List Instruction} {placing : Placing} {room : ℕ} where
   run_along {s} (g ▸ path) (suc left) k e =
       run_next code placing s left g.taken ∙ run_along path left k (omega (arith, g.counted))
 
-module _ {code : List Instruction} {placing : Placing} {u : State} {o : Outcome} where
+module _ {code : List Instruction} {placing : Placing} {u : State} {o : Result End Refusal} where
   pub finished : {room : ℕ} {i : Status} → Path code placing room (fresh i) u → Finishes code placing u o
       → u.steps ≤ step_limit → runs code placing i ≡ answer u o
   unfolding runs
@@ -74,7 +74,7 @@ module _ {code : List Instruction} {placing : Placing} {room : ℕ} where
   same_next : {s u next : State} → Goes code placing room s u → step code placing s ≡ Next next → next ≡ u
   same_next g e = cc g.taken
 
-  pub agree : {s u u' : State} {o o' : Outcome} → Path code placing room s u → Finishes code placing u o
+  pub agree : {s u u' : State} {o o' : Result End Refusal} → Path code placing room s u → Finishes code placing u o
       → Path code placing room s u' → Finishes code placing u' o' → o ≡ o'
   agree done f done f' = cc (f.over, f'.over)
   agree done f (g ▸ path) f' = finished_stays f g.taken
@@ -86,12 +86,12 @@ module _ {code : List Instruction} {placing : Placing} {room : ℕ} where
   fits_after g h here rest = h
   fits_after g h (later e meets) rest = rest (rw (same_next g e) at meets)
 
-  fits_last : {u m : State} {o : Outcome} → Finishes code placing u o → length u.items ≤ room → Meets code placing u m
+  fits_last : {u m : State} {o : Result End Refusal} → Finishes code placing u o → length u.items ≤ room → Meets code placing u m
       → length m.items ≤ room
   fits_last f h here = h
   fits_last f h (later e meets) = finished_stays f e
 
-  pub met_fits : {s u m : State} {o : Outcome} → Path code placing room s u → Finishes code placing u o
+  pub met_fits : {s u m : State} {o : Result End Refusal} → Path code placing room s u → Finishes code placing u o
       → length s.items ≤ room → Meets code placing s m → length m.items ≤ room
   met_fits done f h meets = fits_last f h meets
   met_fits (g ▸ path) f h meets = fits_after g h meets (met_fits path f g.fits)

@@ -20,15 +20,15 @@ use Rattle.rules.specs.Machine.{State, fresh, Placing}
 use Rattle.rules.specs.Run.{answer}
 use Rattle.rules.specs.declared.Status.{Status}
 use Rattle.rules.specs.declared.End.{End}
-use Rattle.rules.specs.declared.Outcome.{Outcome}
-use Rattle.rules.specs.declared.Outcome.TheVariants.{Ended}
 use Rattle.rules.proofs.Step.States.{state_met}
 use Rattle.rules.proofs.Theory.Along.{Finishes, number_finishes, throw_finishes, finished, agree, met_fits}
 use Rattle.rules.proofs.Theory.Completeness.{bits, length_bits, Reads, none, bit, Comes, by, arrival, arrives}
 use Rattle.rules.proofs.Theory.Holding.{Holds, compile_holds, length_compile, code_length_nodes}
 use Rattle.rules.proofs.Theory.Path.{Path, done}
 use Rattle.rules.proofs.Theory.Quiet.{silent_reads, empty, Quietly, quietly_gives}
+use Rattle.std.specs.Prelude.{Result, Ok}
 use Rattle.rules.proofs.Theory.Soundness.{Lands, number, throws, lands}
+use Rattle.rules.specs.declared.Refusal.{Refusal}
 
 -- ---- a placing made of a row of bits
 
@@ -59,7 +59,7 @@ module _ (e : Expression) (small : nodes e ≤ node_limit) (i : Status) where
     state : State
     end : End
     path : Path (compile 0 e) placing (nodes e) (fresh i) state
-    finishes : Finishes (compile 0 e) placing state (Ended end)
+    finishes : Finishes (compile 0 e) placing state (Ok end)
     permitted : Gives e i end
     steps : state.steps + 1 ≤ 3 * nodes e
     reached : state.reached + 1 ≤ 2 * nodes e
@@ -89,7 +89,7 @@ module _ (e : Expression) (small : nodes e ≤ node_limit) (i : Status) where
   finish : (placing : Placing) → Finish placing
   finish placing = finish_of (lands small compiled_held i [] 0 0 (omega arith))
 
-  answered : {placing : Placing} (f : Finish placing) → of_expression e placing i ≡ answer f.state (Ended f.end)
+  answered : {placing : Placing} (f : Finish placing) → of_expression e placing i ≡ answer f.state (Ok f.end)
   answered f = finished f.path f.finishes (omega (arith, f.steps))
 
   ends : (placing : Placing) → Ends e i (of_expression e placing i)
@@ -109,24 +109,24 @@ module _ (e : Expression) (small : nodes e ≤ node_limit) (i : Status) where
 
   same_end : {placing : Placing} (v : End)
       → Comes (compile 0 e) placing (nodes e) (fresh i) (arrival v (0 + code_length e) i []) [] → (f : Finish placing)
-      → ◌≡◌ {A = Outcome} (Ended f.end) (Ended v)
+      → ◌≡◌ {A = Result End Refusal} (Ok f.end) (Ok v)
   same_end (End.Number n) (by path reads) f = agree f.path f.finishes path (number_finishes at_the_length)
   same_end End.Throw (by path reads) f = agree f.path f.finishes path throw_finishes
 
   comes_to : {placing : Placing} {v : End} (d : Gives e i v) → Reads placing 0 (bits d [])
-      → (of_expression e placing i).outcome ≡ Ended v
+      → (of_expression e placing i).outcome ≡ Ok v
   comes_to {placing} {v} d reads =
       let f : Finish placing = finish placing in
       ap (λ a. a.outcome) (answered f) ∙ same_end v (arrives small d compiled_held [] (omega arith) [] (by done reads)) f
 
   meets : (v : End) → Gives e i v
-      → (placing : Placing) × AsksNothingFrom (most_reached e) placing × ((of_expression e placing i).outcome ≡ Ended v)
+      → (placing : Placing) × AsksNothingFrom (most_reached e) placing × ((of_expression e placing i).outcome ≡ Ok v)
   unfolding most_reached
   meets v d =
       let row : List Bool = bits d [] in
       (placed row, placed_ends row (most_reached e) (omega (arith, length_bits d [])), comes_to d (placed_reads row))
 
-  only_permitted : (v : End) (placing : Placing) → (of_expression e placing i).outcome ≡ Ended v → Gives e i v
+  only_permitted : (v : End) (placing : Placing) → (of_expression e placing i).outcome ≡ Ok v → Gives e i v
   only_permitted v placing p =
       let f : Ends e i (of_expression e placing i) = ends placing in
       let same : f.end ≡ v = cc f.ended in

@@ -1,38 +1,30 @@
--- `table::check` meets its contract: the size, the walk over the nodes, then the counts. Assumes nothing.
-use Rattle.std.proofs.Common.{arith, ap, sym, ◌∙◌}
-use Rattle.rules.specs.Checking.{checked_by}
-use Rattle.rules.proofs.Bytes.Sizes.{whole_means}
-use Rattle.rules.proofs.Checking.{checked_told}
-use Rattle.table.proofs.Checking.{size_refused, nodes_refused, nodes_passed}
-use Rattle.table.proofs.Tally.{none_counted, counted_tests}
+-- `table::check` meets its contract: the size, the nodes upward, then the uses. Assumes nothing.
+use Rattle.std.proofs.Common.{sym, ◌∙◌}
+use Rattle.std.proofs.lemmas.Result.{err_from_is_err_and}
+use Rattle.table.proofs.Checking.{sized, size_refused}
+use Rattle.table.proofs.Walk.{nodes_begin, nodes_room, nodes_go_on, nodes_stop, nodes_end}
 use Rattle.table.proofs.check.Goals as goal
 
-pub check_nodes-requires : goal.check_nodes-requires
-check_nodes-requires c =
-    let size = whole_means _ _ (sym c.whole.ensures ∙ c.if-not-whole.false) in
-    record { size = size.size; few = omega (arith, size.few); none = none_counted _ }
+pub returns-in_err-nodes : goal.returns-in_err-nodes
+returns-in_err-nodes c =
+    let err = err_from_is_err_and c.from_residual.result c.from_residual.ensures.1 in
+    rw (err.1, err.2) (sym (size_refused _ _ (rw c.whole.ensures at (sym c.ok_or.ensures.value ∙ c.in_err-nodes.was)) c.at.ensures))
 
-pub check-requires : goal.check-requires
-check-requires c =
-    let size = whole_means _ _ (sym c.whole.ensures ∙ c.if-not-whole.false) in
-    (size.some, omega (arith, size.few))
+pub loop-j-init : goal.loop-j-init
+loop-j-init c =
+    rw c.none-uses.ensures (nodes_begin (sized _ _ (rw c.whole.ensures at (sym c.ok_or.ensures.value ∙ c.in_ok-nodes.was))))
 
--- ---- the answer, by the first test that refuses: the size, then the nodes upward,
--- then the uses
+pub returns-in_err-read : goal.returns-in_err-read
+returns-in_err-read c =
+    let err = err_from_is_err_and c.from_residual-in_err-read.result c.from_residual-in_err-read.ensures.1 in
+    rw (err.1, err.2) (sym (nodes_stop c.loop-j.invariant c.loop-j-test.true (sym c.read.ensures ∙ c.in_err-read.was)))
 
-pub returns-then-not-whole : goal.returns-then-not-whole
-returns-then-not-whole c = sym (size_refused _ (sym c.whole.ensures ∙ c.if-not-whole.true))
+pub count-requires : goal.count-requires
+count-requires c = nodes_room c.loop-j.invariant c.loop-j-test.true (sym c.read.ensures ∙ c.in_ok-read.was)
 
-pub returns-in-Accepted : goal.returns-in-Accepted
-returns-in-Accepted c =
-    let passed = sym c.whole.ensures ∙ c.if-not-whole.false in
-    let size = whole_means _ _ passed in
-    let walked = checked_told _ _ (sym c.check_nodes.ensures.answer ∙ c.in-Accepted.is) in
-    c.check.ensures
-    ∙ ap (checked_by _) (counted_tests (c.check_nodes.ensures.counted walked) _ (omega (arith, size.few)))
-    ∙ sym (nodes_passed _ passed walked)
+pub loop-j-preserved : goal.loop-j-preserved
+loop-j-preserved c =
+    rw c.count.ensures (nodes_go_on c.loop-j.invariant c.loop-j-test.true (sym c.read.ensures ∙ c.in_ok-read.was))
 
-pub returns-in-Refused : goal.returns-in-Refused
-returns-in-Refused c =
-    let refused = checked_told _ _ (sym c.check_nodes.ensures.answer ∙ c.in-Refused.is) in
-    sym (nodes_refused _ (sym c.whole.ensures ∙ c.if-not-whole.false) refused)
+pub returns : goal.returns
+returns c = c.check.ensures ∙ sym (nodes_end c.loop-j.invariant c.loop-j-test.false)

@@ -13,14 +13,10 @@ use Rattle.compiler.proofs.emit.+emit.Goals as goal
 -- ---- Val, Throw
 
 pub place-requires : goal.place-requires
-place-requires t c =
-    let here = reached (c.decreases, c.requires) c.at.ensures c.in-Val.is in
-    val_spot here _
+place-requires t c = val_spot (reached (c.decreases, c.requires) c.at.ensures c.in-Val.is) _
 
 pub place-requires-in-Throw : goal.place-requires-in-Throw
-place-requires-in-Throw t c =
-    let here = reached (c.decreases, c.requires) c.at.ensures c.in-Throw.is in
-    throw_spot here
+place-requires-in-Throw t c = throw_spot (reached (c.decreases, c.requires) c.at.ensures c.in-Throw.is)
 
 pub returns-in-Val : goal.returns-in-Val
 returns-in-Val t c =
@@ -29,31 +25,19 @@ returns-in-Val t c =
     val_emitted here (rw same at c.place.ensures)
 
 pub returns-in-Throw : goal.returns-in-Throw
-returns-in-Throw t c =
-    let here = reached (c.decreases, c.requires) c.at.ensures c.in-Throw.is in
-    throw_emitted here c.place-in-Throw.ensures
+returns-in-Throw t c = throw_emitted (reached (c.decreases, c.requires) c.at.ensures c.in-Throw.is) c.place-in-Throw.ensures
 
 -- ---- Add
 
 pub emit-middle-requires : goal.emit-middle-requires
-emit-middle-requires t c =
-    let here = reached (c.decreases, c.requires) c.at.ensures c.in-Add.is in
-    add_left here
+emit-middle-requires t c = add_left (reached (c.decreases, c.requires) c.at.ensures c.in-Add.is)
 
 pub emit-end-requires : goal.emit-end-requires
-emit-end-requires t c =
-    let here = reached (c.decreases, c.requires) c.at.ensures c.in-Add.is in
-    add_right here c.emit-middle.ensures
+emit-end-requires t c = add_right (reached (c.decreases, c.requires) c.at.ensures c.in-Add.is) c.emit-middle.ensures
 
 pub place-requires-in-Add : goal.place-requires-in-Add
 place-requires-in-Add t c =
-    let here = reached (c.decreases, c.requires) c.at.ensures c.in-Add.is in
-    add_spot here c.emit-middle.ensures c.emit-end.ensures
-
-pub overflow_add-result-in-Add : goal.overflow_add-result-in-Add
-overflow_add-result-in-Add t c =
-    let here = reached (c.decreases, c.requires) c.at.ensures c.in-Add.is in
-    omega arith
+    add_spot (reached (c.decreases, c.requires) c.at.ensures c.in-Add.is) c.emit-middle.ensures c.emit-end.ensures
 
 pub returns-in-Add : goal.returns-in-Add
 returns-in-Add t c =
@@ -63,36 +47,24 @@ returns-in-Add t c =
 -- ---- Seqn
 
 pub emit-middle-requires-in-Seqn : goal.emit-middle-requires-in-Seqn
-emit-middle-requires-in-Seqn t c =
-    let here = reached (c.decreases, c.requires) c.at.ensures c.in-Seqn.is in
-    seqn_left here
+emit-middle-requires-in-Seqn t c = seqn_left (reached (c.decreases, c.requires) c.at.ensures c.in-Seqn.is)
 
-pub place-requires-in-Seqn : goal.place-requires-in-Seqn
-place-requires-in-Seqn t c =
-    let here = reached (c.decreases, c.requires) c.at.ensures c.in-Seqn.is in
-    seqn_spot here c.emit-middle-in-Seqn.ensures
-
-pub overflow_add-middle : goal.overflow_add-middle
-overflow_add-middle t c =
-    let here = reached (c.decreases, c.requires) c.at.ensures c.in-Seqn.is in
-    omega arith
+pub place-next-requires : goal.place-next-requires
+place-next-requires t c = seqn_spot (reached (c.decreases, c.requires) c.at.ensures c.in-Seqn.is) c.emit-middle-in-Seqn.ensures
 
 pub emit-requires : goal.emit-requires
 emit-requires t c =
-    let here = reached (c.decreases, c.requires) c.at.ensures c.in-Seqn.is in
-    seqn_right here c.emit-middle-in-Seqn.ensures c.place-in-Seqn.ensures
+    seqn_right (reached (c.decreases, c.requires) c.at.ensures c.in-Seqn.is) c.emit-middle-in-Seqn.ensures c.place-next.ensures
 
 pub returns-in-Seqn : goal.returns-in-Seqn
 returns-in-Seqn t c =
     let here = reached (c.decreases, c.requires) c.at.ensures c.in-Seqn.is in
-    seqn_emitted here c.emit-middle-in-Seqn.ensures c.place-in-Seqn.ensures c.emit.ensures
+    seqn_emitted here c.emit-middle-in-Seqn.ensures c.place-next.ensures c.emit.ensures
 
 -- ---- Catch
 
 pub emit-middle-requires-in-Catch : goal.emit-middle-requires-in-Catch
-emit-middle-requires-in-Catch t c =
-    let here = reached (c.decreases, c.requires) c.at.ensures c.in-Catch.is in
-    catch_left here
+emit-middle-requires-in-Catch t c = catch_left (reached (c.decreases, c.requires) c.at.ensures c.in-Catch.is)
 
 pub overflow_add-handler : goal.overflow_add-handler
 overflow_add-handler t c =
@@ -101,8 +73,7 @@ overflow_add-handler t c =
 
 pub emit-end-requires-in-Catch : goal.emit-end-requires-in-Catch
 emit-end-requires-in-Catch t c =
-    let here = reached (c.decreases, c.requires) c.at.ensures c.in-Catch.is in
-    catch_right here c.emit-middle-in-Catch.ensures
+    catch_right (reached (c.decreases, c.requires) c.at.ensures c.in-Catch.is) c.emit-middle-in-Catch.ensures
 
 pub place-requires-in-Catch : goal.place-requires-in-Catch
 place-requires-in-Catch t c =
@@ -124,58 +95,48 @@ returns-in-Catch t c =
 
 -- ---- Block
 
-pub place-requires-in-Block : goal.place-requires-in-Block
-place-requires-in-Block t c =
+pub place-inner-requires : goal.place-inner-requires
+place-inner-requires t c =
     let here = reached (c.decreases, c.requires) c.at.ensures c.in-Block.is in
     scope_set here here.operands _
 
 pub emit-end-requires-in-Block : goal.emit-end-requires-in-Block
 emit-end-requires-in-Block t c =
     let here = reached (c.decreases, c.requires) c.at.ensures c.in-Block.is in
-    scope_left here here.operands c.place-in-Block.ensures
+    scope_left here here.operands c.place-inner.ensures
 
-pub place-requires-in-Block-2 : goal.place-requires-in-Block-2
-place-requires-in-Block-2 t c =
+pub place-requires-in-Block : goal.place-requires-in-Block
+place-requires-in-Block t c =
     let here = reached (c.decreases, c.requires) c.at.ensures c.in-Block.is in
-    scope_reset here here.operands c.place-in-Block.ensures c.emit-end-in-Block.ensures
-
-pub overflow_add-result-in-Block : goal.overflow_add-result-in-Block
-overflow_add-result-in-Block t c =
-    let here = reached (c.decreases, c.requires) c.at.ensures c.in-Block.is in
-    omega arith
+    scope_reset here here.operands c.place-inner.ensures c.emit-end-in-Block.ensures
 
 pub returns-in-Block : goal.returns-in-Block
 unfolding of_node compile
 returns-in-Block t c =
     let here = reached (c.decreases, c.requires) c.at.ensures c.in-Block.is in
-    scope_emitted here here.operands c.place-in-Block.ensures c.emit-end-in-Block.ensures (rw here.said.expression)
-    c.place-in-Block-2.ensures
+    scope_emitted here here.operands c.place-inner.ensures c.emit-end-in-Block.ensures (rw here.said.expression)
+    c.place-in-Block.ensures
 
 -- ---- Unblock
 
-pub place-requires-in-Unblock : goal.place-requires-in-Unblock
-place-requires-in-Unblock t c =
+pub place-inner-requires-in-Unblock : goal.place-inner-requires-in-Unblock
+place-inner-requires-in-Unblock t c =
     let here = reached (c.decreases, c.requires) c.at.ensures c.in-Unblock.is in
     scope_set here here.operands _
 
 pub emit-end-requires-in-Unblock : goal.emit-end-requires-in-Unblock
 emit-end-requires-in-Unblock t c =
     let here = reached (c.decreases, c.requires) c.at.ensures c.in-Unblock.is in
-    scope_left here here.operands c.place-in-Unblock.ensures
+    scope_left here here.operands c.place-inner-in-Unblock.ensures
 
-pub place-requires-in-Unblock-2 : goal.place-requires-in-Unblock-2
-place-requires-in-Unblock-2 t c =
+pub place-requires-in-Unblock : goal.place-requires-in-Unblock
+place-requires-in-Unblock t c =
     let here = reached (c.decreases, c.requires) c.at.ensures c.in-Unblock.is in
-    scope_reset here here.operands c.place-in-Unblock.ensures c.emit-end-in-Unblock.ensures
-
-pub overflow_add-result-in-Unblock : goal.overflow_add-result-in-Unblock
-overflow_add-result-in-Unblock t c =
-    let here = reached (c.decreases, c.requires) c.at.ensures c.in-Unblock.is in
-    omega arith
+    scope_reset here here.operands c.place-inner-in-Unblock.ensures c.emit-end-in-Unblock.ensures
 
 pub returns-in-Unblock : goal.returns-in-Unblock
 unfolding of_node compile
 returns-in-Unblock t c =
     let here = reached (c.decreases, c.requires) c.at.ensures c.in-Unblock.is in
-    scope_emitted here here.operands c.place-in-Unblock.ensures c.emit-end-in-Unblock.ensures (rw here.said.expression)
-    c.place-in-Unblock-2.ensures
+    scope_emitted here here.operands c.place-inner-in-Unblock.ensures c.emit-end-in-Unblock.ensures (rw here.said.expression)
+    c.place-in-Unblock.ensures

@@ -1,18 +1,12 @@
 -- `numbers::lanes::sum` meets its contract: the wrapped sum of two residues is the residue of the sum. Assumes nothing.
-use Rattle.std.proofs.Common.{sym, ap, to_z-of_z, w32}
-use Rattle.rules.specs.Number.{signed, sum}
-use Rattle.numbers.proofs.Signed.{residue_sum}
+use Rattle.std.proofs.Common.{◌≡◌, ◌+◌, ◌%◌, ◌^◌, ◌+ℤ◌, ◌∙◌, ap, sym, w32, of_z}
+use Rattle.rules.specs.Number.{residue, signed, sum}
+use Rattle.numbers.proofs.Signed.{signed_to_z, residue_of_z, residue_sum}
 use Rattle.numbers.proofs.lanes.sum.Goals as goal
 
 pub returns : goal.returns
 unfolding sum
 returns c =
-    rw (
-      to_z-of_z {w = w32} (record { sfits = c.signed.type_inv }),
-      c.signed.ensures,
-      c.wrapping_add_u32.ensures.value,
-      c.residue.ensures,
-      c.residue-2.ensures,
-    )
-    (simp (to_z-of_z c.ranges.n, to_z-of_z c.ranges.m)
-    (ap signed (sym (residue_sum c.args.n c.args.m))))
+    let bits : (of_z w32 c.args.n + of_z w32 c.args.m) % 2 ^ 32 ≡ residue (c.args.n +ℤ c.args.m) =
+    rw (residue_of_z c.ranges.n, residue_of_z c.ranges.m) (sym (residue_sum c.args.n c.args.m)) in
+    signed_to_z _ ∙ ap signed bits

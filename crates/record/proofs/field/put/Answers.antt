@@ -5,4 +5,4 @@ use Rattle.rules.specs.CodeBytes.{instruction_record}
 use Rattle.record.proofs.field.put.Goals as goal
 
 pub returns : goal.returns
-returns c = unfold instruction_record word_bytes in simp towards_suc
+returns c = rw c.to_le_bytes.ensures (unfold instruction_record word_bytes in simp towards_suc)

@@ -5,18 +5,21 @@ use Rattle.salnegris.proofs.fields.of_answer.Goals as goal
 
 pub overflow_cast-result : goal.overflow_cast-result
 unfolding outcome_place
-overflow_cast-result c = record { fits = rw c.in-Refused.is at c.requires.place }
+overflow_cast-result c = rw c.in-Err.is (record { fits = rw c.in-Err.is at c.requires.place })
 
-pub returns-in-Number : goal.returns-in-Number
+pub returns-in-Ok-Number : goal.returns-in-Ok-Number
 unfolding outcome_kind outcome_number outcome_refusal outcome_place
-returns-in-Number c =
-    let same : to_z w32 (of_z w32 c.in-Number.number) ≡ c.in-Number.number = search rules in
-    rw (c.in-Ended.is, c.in-Number.is, same)
+returns-in-Ok-Number c =
+    let same : to_z w32 (of_z w32 c.in-Ok-Number.number) ≡ c.in-Ok-Number.number = search rules in
+    let number = rw c.in-Ok-Number.is at c.in-Ok-Number.field-0-is in
+    rw (c.in-Ok-Number.is, number, same)
 
-pub returns-in-Throw : goal.returns-in-Throw
+pub returns-in-Ok-Throw : goal.returns-in-Ok-Throw
 unfolding outcome_kind outcome_number outcome_refusal outcome_place
-returns-in-Throw c = rw (c.in-Ended.is, c.in-Throw.is)
+returns-in-Ok-Throw c =
+    let throw = rw c.in-Ok-Throw.is at c.in-Ok-Throw.field-0-is in
+    rw (c.in-Ok-Throw.is, throw)
 
-pub returns-in-Refused : goal.returns-in-Refused
+pub returns-in-Err : goal.returns-in-Err
 unfolding outcome_kind outcome_number outcome_refusal outcome_place
-returns-in-Refused c = rw (c.in-Refused.is, c.number_of-refusal.ensures)
+returns-in-Err c = let number = rw c.in-Err.is at c.number_of.ensures in rw (c.in-Err.is, number)

@@ -4,16 +4,16 @@ use Rattle.salnegris.proofs.fields.of_compiled.Goals as goal
 
 pub overflow_cast-result : goal.overflow_cast-result
 unfolding compiled_length
-overflow_cast-result c = record { fits = rw c.in-Length.is at c.requires.length }
+overflow_cast-result c = record { fits = rw c.in-Ok.is at c.requires.length }
 
-pub overflow_cast-result-in-Refused : goal.overflow_cast-result-in-Refused
+pub overflow_cast-result-in-Err : goal.overflow_cast-result-in-Err
 unfolding compiled_place
-overflow_cast-result-in-Refused c = record { fits = rw c.in-Refused.is at c.requires.place }
+overflow_cast-result-in-Err c = record { fits = rw c.in-Err.is at c.requires.place }
 
-pub returns-in-Length : goal.returns-in-Length
+pub returns-in-Ok : goal.returns-in-Ok
 unfolding compiled_length compiled_refusal compiled_place
-returns-in-Length c = rw c.in-Length.is
+returns-in-Ok c = rw c.in-Ok.is
 
-pub returns-in-Refused : goal.returns-in-Refused
+pub returns-in-Err : goal.returns-in-Err
 unfolding compiled_length compiled_refusal compiled_place
-returns-in-Refused c = rw (c.in-Refused.is, c.number_of-number.ensures)
+returns-in-Err c = rw (c.in-Err.is, c.number_of.ensures)

@@ -1,41 +1,37 @@
 -- `table::node::at` meets its contract, kind by kind. Assumes nothing.
-use Rattle.std.proofs.Common.{arith, refl, sym, to_z-of_z}
+use Rattle.std.proofs.Common.{rules}
 use Rattle.rules.specs.Bytes.{row_numbered}
-use Rattle.rules.specs.Table.{kinds}
-use Rattle.rules.proofs.Lists.{row_unknown}
-use Rattle.table.proofs.Reading.{node_read, no_node_read}
+use Rattle.rules.specs.Table.{kinds, kind_at, node_of, node_at}
 use Rattle.table.proofs.node.at.Goals as goal
 
-pub returns-in-1 : goal.returns-in-1
-unfolding kinds row_numbered
-returns-in-1 c =
-    rw (to_z-of_z (record { sfits = c.signed.type_inv }), c.signed.ensures, c.word.ensures)
-    (node_read _ _ c.byte.ensures.0 c.in-1.is refl c.half-left.ensures.0 c.half-right.ensures.0)
+pub returns-in-Ok-Val : goal.returns-in-Ok-Val
+unfolding node_at node_of kind_at kinds row_numbered
+returns-in-Ok-Val c = search rules
 
-pub returns-in-2 : goal.returns-in-2
-unfolding kinds row_numbered
-returns-in-2 c = node_read _ _ c.byte.ensures.0 c.in-2.is refl c.half-left.ensures.0 c.half-right.ensures.0
+pub returns-in-Ok-Throw : goal.returns-in-Ok-Throw
+unfolding node_at node_of kind_at kinds row_numbered
+returns-in-Ok-Throw c = search rules
 
-pub returns-in-3 : goal.returns-in-3
-unfolding kinds row_numbered
-returns-in-3 c = node_read _ _ c.byte.ensures.0 c.in-3.is refl c.half-left.ensures.0 c.half-right.ensures.0
+pub returns-in-Ok-Add : goal.returns-in-Ok-Add
+unfolding node_at node_of kind_at kinds row_numbered
+returns-in-Ok-Add c = search rules
 
-pub returns-in-4 : goal.returns-in-4
-unfolding kinds row_numbered
-returns-in-4 c = node_read _ _ c.byte.ensures.0 c.in-4.is refl c.half-left.ensures.0 c.half-right.ensures.0
+pub returns-in-Ok-Seqn : goal.returns-in-Ok-Seqn
+unfolding node_at node_of kind_at kinds row_numbered
+returns-in-Ok-Seqn c = search rules
 
-pub returns-in-5 : goal.returns-in-5
-unfolding kinds row_numbered
-returns-in-5 c = node_read _ _ c.byte.ensures.0 c.in-5.is refl c.half-left.ensures.0 c.half-right.ensures.0
+pub returns-in-Ok-Catch : goal.returns-in-Ok-Catch
+unfolding node_at node_of kind_at kinds row_numbered
+returns-in-Ok-Catch c = search rules
 
-pub returns-in-6 : goal.returns-in-6
-unfolding kinds row_numbered
-returns-in-6 c = node_read _ _ c.byte.ensures.0 c.in-6.is refl c.half-left.ensures.0 c.half-right.ensures.0
+pub returns-in-Ok-Block : goal.returns-in-Ok-Block
+unfolding node_at node_of kind_at kinds row_numbered
+returns-in-Ok-Block c = search rules
 
-pub returns-in-7 : goal.returns-in-7
-unfolding kinds row_numbered
-returns-in-7 c = node_read _ _ c.byte.ensures.0 c.in-7.is refl c.half-left.ensures.0 c.half-right.ensures.0
+pub returns-in-Ok-Unblock : goal.returns-in-Ok-Unblock
+unfolding node_at node_of kind_at kinds row_numbered
+returns-in-Ok-Unblock c = search rules
 
-pub returns-in_default : goal.returns-in_default
-unfolding kinds
-returns-in_default c = sym (no_node_read _ _ c.byte.ensures.0 (row_unknown kinds _ (λ l h. omega arith)))
+pub returns-in-Err : goal.returns-in-Err
+unfolding node_at node_of kind_at kinds row_numbered
+returns-in-Err c = search rules

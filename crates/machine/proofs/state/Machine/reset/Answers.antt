@@ -1,31 +1,23 @@
 -- `machine::state::Machine::reset` meets its contract: the saved status below a number is restored and removed, and there is no
--- rule for fewer than two items or for other items. Assumes nothing.
+-- rule for other items. Assumes nothing.
 use native.Mathlib.Omega.{arith}
-use borrow.Author.Rules.{rules}
 use mir.Syntax.{w32}
 use mir.Val.{SFits}
 use mir.Facts.{to_z-of_z}
-use Rattle.machine.specs.Items.{handler_of}
-use Rattle.machine.proofs.Carrying.{reset_few, reset_top, reset_below, reset}
+use Rattle.std.proofs.lemmas.Result.{err_from_is_err_and}
+use Rattle.machine.proofs.Carrying.{reset_none, reset_other, reset}
 use Rattle.machine.proofs.state.Machine.reset.Goals as goal
 
-pub returns-then-height-lt2 : goal.returns-then-height-lt2
-returns-then-height-lt2 c = reset_few c.args.stack.now c.args.self c.if-height-lt2.true
+pub returns-in_err-n : goal.returns-in_err-n
+returns-in_err-n c =
+    let p = err_from_is_err_and c.from_residual.result c.from_residual.ensures.1 in
+    rw (p.1, p.2) (reset_none c.args.address c.args.stack.now c.args.self c.in_err-n.ensures.found)
+
+pub returns-in-Saved : goal.returns-in-Saved
+returns-in-Saved c =
+    let fits : SFits w32 c.in_ok-n.n = omega arith in
+    reset c.args.address c.args.stack.now c.args.self (rw c.in-Saved.is at c.in_ok-n.ensures.found)
+    (rw (to_z-of_z fits) at c.replaced.ensures)
 
 pub returns-in_default : goal.returns-in_default
-returns-in_default c = reset_top c.args.stack.now c.args.self c.if-height-lt2.false c.at.ensures c.in_default.not-Number
-
-pub returns-in_default-at : goal.returns-in_default-at
-returns-in_default-at c =
-    reset_below c.args.stack.now c.args.self c.if-height-lt2.false c.in-Number.ensures c.at-2.ensures c.in_default-at.not-Saved
-
-pub put-requires : goal.put-requires
-unfolding handler_of
-put-requires c = search rules
-
-pub returns : goal.returns
-returns c =
-    let fits : SFits w32 c.in-Number.n = omega arith in
-    rw c.onward.ensures
-    (reset c.args.stack.now c.args.self c.if-height-lt2.false c.in-Number.ensures (rw (to_z-of_z fits) at c.put.ensures)
-    c.in-Saved.ensures)
+returns-in_default c = reset_other c.args.address c.args.stack.now c.args.self c.in_ok-n.ensures.found c.in_default.not-Saved

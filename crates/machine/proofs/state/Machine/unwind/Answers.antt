@@ -8,8 +8,8 @@ returns-in-Number c =
 
 pub returns-in-Handler : goal.returns-in-Handler
 returns-in-Handler c =
-    rw c.unwound-in-Handler.ensures (handler_entered c.args.stack.now c.args.self c.requires.some c.in-Handler.ensures)
+    rw c.unwound.ensures (handler_entered c.args.stack.now c.args.self c.requires.some c.in-Handler.ensures)
 
 pub returns-in-Saved : goal.returns-in-Saved
 returns-in-Saved c =
-    rw c.unwound-in-Saved.ensures (status_restored c.args.stack.now c.args.self c.requires.some c.in-Saved.ensures)
+    rw c.unwound.ensures (status_restored c.args.stack.now c.args.self c.requires.some c.in-Saved.ensures)
