@@ -15,7 +15,8 @@ mod show;
 
 use std::io;
 
-// All buffers have a fixed size, and the C interface lends them. A script longer than 65,536 bytes would lose its last cases, and what is written would lack them.
+// All buffers have a fixed size, and the C interface lends them. A script longer than 65,536 bytes would lose its last cases, and
+// what is written would lack them.
 fn main(rt: HostRuntime) -> io::Result<()> {
     let mut text = [0; 65536];
     let read = rehearse::reading::standard_input(&mut rt.reader(), &mut text)?;

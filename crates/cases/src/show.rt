@@ -1,5 +1,5 @@
-// What is written of an answer, on standard output. No `Display`: one of ends and refusals would stand beside the types, in `rules`,
-// which writes nothing.
+// What is written of an answer, on standard output. No `Display`: one of ends and refusals would stand beside the types, and
+// `rules` writes nothing.
 
 use rules::{End, Refusal};
 use std::io;

@@ -1,5 +1,5 @@
-// One instruction, written into the lent code (document 01, "The code"). The opcodes are written here alone; `code`, which reads them,
-// is no crate that the compiler rests on.
+// One instruction, written into the lent code (document 01, "The code"). The opcodes are written here alone; `code`, which reads
+// them, is no crate that the compiler rests on.
 
 ghost use Rattle.compiler.specs.Walking.{Placeable, Placed};
 

@@ -11,8 +11,8 @@ pub fn number_of(status: Status) -> u32
     status as u32
 }
 
-// Of a number that has passed test 7 or 11. It answers for every number, so it is no `try_from`; and a `From` would say of no number
-// which it is for.
+// Of a number that has passed test 7 or 11. It answers for every number, so it is no `try_from`; and a `From` would not say which
+// numbers it is for.
 pub fn of_number(number: u32) -> Status
     ensures { result ≡ status_numbered number }
 {

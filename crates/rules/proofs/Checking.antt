@@ -76,7 +76,8 @@ abbrev pub refusal_of : {A : Type 0} → Result A Refusal → Option Refusal
 refusal_of (Ok x) = none
 refusal_of (Err r) = some r
 
-pub checked_told : (n : ℕ) (found : Option Refusal) {answer : Result ℕ Refusal} → checked_by n found ≡ answer → found ≡ refusal_of answer
+pub checked_told : (n : ℕ) (found : Option Refusal) {answer : Result ℕ Refusal} → checked_by n found ≡ answer
+    → found ≡ refusal_of answer
 checked_told n found = answer_told refusal_of Err (Ok n) found refl (λ r. refl)
 
 module _ (tests : List ℕ → List (Option Refusal)) (bytes : List ℕ) where
@@ -114,6 +115,7 @@ pub size_told : (test : Bool) (n : ℕ) (e : Refusal) {m : ℕ} → ok_or (cond 
 size_told true n e h = (refl, cc (sym h))
 size_told false n e h = absurd (cc h)
 
-pub size_missing : (test : Bool) (n : ℕ) (e : Refusal) {r : Refusal} → ok_or (cond test (Some n) None) e ≡ Err r → (test ≡ false) × (r ≡ e)
+pub size_missing : (test : Bool) (n : ℕ) (e : Refusal) {r : Refusal} → ok_or (cond test (Some n) None) e ≡ Err r
+    → (test ≡ false) × (r ≡ e)
 size_missing true n e h = absurd (cc h)
 size_missing false n e h = (refl, cc (sym h))

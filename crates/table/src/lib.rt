@@ -16,8 +16,8 @@ use uses::Uses;
 // A table has at most 4,096 bytes, eight for each node.
 const NODES: usize = 512;
 
-// "Tests 1; then each node upward for 2, 3, 4; then 5." (The walk over a code counts nothing; one for both would ask more than these
-// lines.)
+// "Tests 1; then each node upward for 2, 3, 4; then 5." (The walk over a code counts nothing; one for both would ask more than
+// these lines.)
 pub fn check(table: &[u8]) -> Result<usize, Refusal>
     ensures { result ≡ check_answer table_tests table.now }
 {

@@ -3,7 +3,8 @@ use Rattle.std.proofs.Common.{◌≡◌, ◌<◌, true, sym, ◌∙◌, Err}
 use Rattle.std.proofs.lemmas.Result.{err_from_is_err_and}
 use Rattle.rules.specs.Bytes.{records, whole_records}
 use Rattle.rules.specs.Limits.{code_limit}
-use Rattle.rules.proofs.Checking.{answer_passed, answer_refused, walk_begins, walk_goes_on, walk_stops, walk_ends, size_told, size_missing}
+use Rattle.rules.proofs.Checking.{answer_passed, answer_refused, size_told, size_missing}
+use Rattle.rules.proofs.Checking.{walk_begins, walk_goes_on, walk_stops, walk_ends}
 use Rattle.code.proofs.Checking.{size_refused, size_passed}
 use Rattle.code.proofs.Reading.{told}
 use Rattle.code.proofs.check.Goals as goal
