@@ -1,4 +1,4 @@
--- The turns of the run's loop, by where the machine is.
+-- The turns of the run's loops, by where the machine is.
 --
 --   at_the_length           it runs at the length: the end, or 14
 --   nothing_to_unwind       it unwinds with no item: a throw

@@ -29,7 +29,7 @@ impl Stopped {
 }
 
 // At most so many steps. "An end or 14 at the length comes before 15, 15 before a step." The loop is left with its end as its
-// value.
+// value. The inner one takes a step, and goes on as long as that unwinds, until the machine runs at an address again.
 pub(crate) fn repeat(
     status: Status,
     code: &[u8],
@@ -42,26 +42,28 @@ pub(crate) fn repeat(
 {
     let length = code.len() / 8;
     let mut machine = Machine::new(status);
-    let outcome = loop {
-        match machine.mode {
-            Mode::Running(address) => {
-                if length <= address {
-                    break machine.at_length(stack, address);
+    let mut address = 0;
+    let outcome = 'run: loop {
+        if length <= address {
+            break machine.at_length(stack, address);
+        }
+        address = loop {
+            if machine.steps == most {
+                break 'run Err(Reason::Steps.at(0));
+            }
+            match machine.step(code, schedule, stack) {
+                Ok(next) => machine = next,
+                Err(reason) => break 'run Err(reason.at(machine.place())),
+            }
+            match machine.mode {
+                Mode::Running(next) => break next,
+                Mode::Unwinding => {
+                    if machine.height == 0 {
+                        break 'run Ok(End::Throw);
+                    }
                 }
             }
-            Mode::Unwinding => {
-                if machine.height == 0 {
-                    break Ok(End::Throw);
-                }
-            }
-        }
-        if machine.steps == most {
-            break Err(Reason::Steps.at(0));
-        }
-        match machine.step(code, schedule, stack) {
-            Ok(next) => machine = next,
-            Err(reason) => break Err(reason.at(machine.place())),
-        }
+        };
     };
     Stopped { machine, outcome }
 }
