@@ -28,11 +28,11 @@ impl<'a> Case<'a> {
         match command {
             b"#" => {}
             b"" => fill(&mut self.bytes, words)?,
-            b"case" => *self = Case::new(words),
-            b"again" => {
-                self.name = words;
-                self.recalls.clear();
+            b"case" => {
+                self.bytes.clear();
+                self.rename(words);
             }
+            b"again" => self.rename(words),
             b"recalls" => fill(&mut self.recalls, words)?,
             b"compile" => self.compile(rt, words)?,
             b"code" => self.code(rt, words)?,
@@ -40,5 +40,11 @@ impl<'a> Case<'a> {
             _ => return Err(Error::NotUnderstood),
         }
         Ok(())
+    }
+
+    // The bytes stay. A case is not made anew, since its room would be written over for each line that names one.
+    fn rename(&mut self, name: &'a [u8]) {
+        self.name = name;
+        self.recalls.clear();
     }
 }

@@ -12,7 +12,11 @@ impl Case<'_> {
     // By the word `ROOM`, with a code buffer of so many bytes: at most the longest code, 8,184 bytes, and 16 more. It writes
     // NAME: ANSWER, LEFT, quiet QUIET.
     pub(super) fn compile(&self, rt: &impl Print, room: &[u8]) -> Result<(), Error> {
-        let room = number(room)?;
+        self.compile_into(rt, number(room)?)
+    }
+
+    // A function's locals are cleared where it begins. So that its buffer is filled and not cleared before, it begins with that.
+    fn compile_into(&self, rt: &impl Print, room: usize) -> Result<(), Error> {
         let mut longest = [FRESH; 8200];
         let buffer = longest.get_mut(..room).ok_or(Error::NotUnderstood)?;
         // The C interface has refusal 0 for none.
@@ -33,8 +37,11 @@ impl Case<'_> {
     // By the words `FIRST COUNT`, those instructions of the code, in a buffer for the longest.
     pub(super) fn code(&self, rt: &impl Print, words: &[u8]) -> Result<(), Error> {
         let (first, count) = parted(words, b' ');
-        let first = number(first)?;
-        let count = number(count)?;
+        self.show_code(rt, number(first)?, number(count)?)
+    }
+
+    // It too begins with its buffer.
+    fn show_code(&self, rt: &impl Print, first: usize, count: usize) -> Result<(), Error> {
         let mut buffer = [FRESH; 8184];
         salnegris_compile(&self.bytes, &mut buffer);
         let (instructions, _) = buffer.as_chunks::<8>();

@@ -14,8 +14,13 @@ pub(crate) fn fill<const ROOM: usize>(
         None => (words, 1),
     };
     for _ in 0..times {
+        let before = bytes.len();
         for word in given.split(|character| *character == b' ') {
             put(bytes, word)?;
+        }
+        // A turn that gives no byte gives none again, however often it is asked for.
+        if bytes.len() == before {
+            break;
         }
     }
     Ok(())

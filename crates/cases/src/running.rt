@@ -15,7 +15,11 @@ impl Case<'_> {
     pub(super) fn run(&self, rt: &impl Print, words: &[u8]) -> Result<(), Error> {
         let (status, room) = parted(words, b' ');
         let status = u8::try_from(number(status)?).map_err(|_| Error::NotUnderstood)?;
-        let room = number(room)?;
+        self.run_from(rt, status, number(room)?)
+    }
+
+    // It begins with its buffer, as `compile_into` does.
+    fn run_from(&self, rt: &impl Print, status: u8, room: usize) -> Result<(), Error> {
         let mut longest = [FRESH; 4112];
         let stack = longest.get_mut(..room).ok_or(Error::NotUnderstood)?;
         let answer = salnegris_run(status, &self.bytes, &self.recalls, stack);
@@ -44,7 +48,7 @@ fn left(rt: &impl Print, stack: &[u8]) -> io::Result<()> {
         return print!(rt; ", stack untouched");
     }
     match stack.split_at_checked(4096) {
-        Some((items, later)) if items.iter().all(|byte| *byte == 0) => {
+        Some((items, later)) if items == [0; 4096].as_slice() => {
             print!(rt; ", stack zero")?;
             show_later(rt, later)
         }
